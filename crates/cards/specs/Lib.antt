@@ -1,0 +1,6 @@
+pub mod Code
+pub mod Bounds
+pub mod Sections
+pub mod Trees
+pub mod Measures
+pub mod Cards

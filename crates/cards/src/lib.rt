@@ -1,0 +1,23 @@
+// Cards.
+mod card;
+mod extent;
+mod lines;
+mod make;
+mod measure;
+mod names;
+mod section;
+mod tree;
+
+pub use card::Card;
+pub use lines::Access;
+pub use lines::Declaration;
+pub use lines::KindName;
+pub use lines::Level;
+pub use lines::OrderName;
+pub use make::Limit;
+pub use names::Local;
+pub use names::Pointer;
+pub use section::Section;
+pub use tree::Block;
+pub use tree::Statement;
+pub use tree::Step;
