@@ -1,0 +1,14 @@
+// Loading.
+mod cursor;
+mod line;
+mod read_line;
+mod refusal;
+mod tell;
+mod texts;
+
+pub use line::Keyword;
+pub use line::Line;
+pub use line::Verb;
+pub use refusal::LineFault;
+pub use refusal::LoadRefusal;
+pub use refusal::Told;

@@ -1,0 +1,5 @@
+pub mod Cuts
+pub mod Tokens
+pub mod Numbers
+pub mod Names
+pub mod Reading
