@@ -6,6 +6,7 @@ mod make;
 mod measure;
 mod names;
 mod section;
+mod sections;
 mod tree;
 
 pub use card::Card;

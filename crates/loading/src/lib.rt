@@ -1,4 +1,5 @@
 // Loading.
+mod blocks;
 mod cursor;
 mod line;
 mod read_line;
@@ -6,6 +7,9 @@ mod refusal;
 mod tell;
 mod texts;
 
+pub use blocks::Closer;
+pub use blocks::Mark;
+pub use blocks::SectionKind;
 pub use line::Keyword;
 pub use line::Line;
 pub use line::Verb;
