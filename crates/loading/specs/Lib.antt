@@ -2,3 +2,4 @@ pub mod Refusals
 pub mod Lines
 pub mod Texts
 pub mod Blocks
+pub mod Headers

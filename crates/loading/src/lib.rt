@@ -1,6 +1,7 @@
 // Loading.
 mod blocks;
 mod cursor;
+mod header;
 mod line;
 mod read_line;
 mod refusal;
@@ -10,6 +11,7 @@ mod texts;
 pub use blocks::Closer;
 pub use blocks::Mark;
 pub use blocks::SectionKind;
+pub use header::Header;
 pub use line::Keyword;
 pub use line::Line;
 pub use line::Verb;
