@@ -1,3 +1,5 @@
 pub mod Sections
 pub mod Readers
 pub mod Literals
+pub mod Fits
+pub mod Bodies

@@ -3,3 +3,4 @@ pub mod Lines
 pub mod Texts
 pub mod Blocks
 pub mod Headers
+pub mod Loading

@@ -5,6 +5,7 @@ mod header;
 mod line;
 mod read_line;
 mod refusal;
+mod slot;
 mod tell;
 mod texts;
 
@@ -18,3 +19,4 @@ pub use line::Verb;
 pub use refusal::LineFault;
 pub use refusal::LoadRefusal;
 pub use refusal::Told;
+pub use slot::Slot;
