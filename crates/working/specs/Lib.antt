@@ -1,3 +1,10 @@
 pub mod Tasks
 pub mod Requests
 pub mod Serial
+pub mod Frames
+pub mod Works
+pub mod Records
+pub mod Effects
+pub mod Steps
+pub mod Results
+pub mod Piles
