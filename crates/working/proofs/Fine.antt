@@ -18,7 +18,7 @@ use Rattle.cards.specs.Bounds.{step-bound, statement-steps, task-bound}
 use Rattle.working.specs.Tasks.{Declared, nothing, state, with-state, held, is-immediate, level, assign, Task}
 use Rattle.working.specs.Requests.{FaultKind, Next, goes, Request, fault, quiet, read, write, join, changed, continued, with-word, with-pointer, word, Section, refused, accepted, amended, endowed, child, maker, after-with, after-task, under, statement-request, block-request, request, stepped, reply}
 use Rattle.working.specs.Serial.{segment, made-by}
-use Rattle.working.proofs.Lists.{All}
+use Rattle.std.specs.shelf.Lists.{All}
 
 -- the declaration state of a task
 abbrev pub at : Task → ℕ → Access → Level

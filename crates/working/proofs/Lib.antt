@@ -1,4 +1,3 @@
-pub mod Lists
 pub mod Fine
 pub mod Serials
 pub mod Stacks
