@@ -1,5 +1,6 @@
 pub mod Code
 pub mod Bounds
+pub mod Literals
 pub mod Sections
 pub mod Trees
 pub mod Measures

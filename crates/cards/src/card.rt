@@ -1,7 +1,10 @@
 // A card within its limits.
 ghost use Prim.Native.Nat.{_+_, _≤_};
-ghost use Rattle.std.specs.Of.Vec.{vec-len};
+ghost use mathlib.Core.Bool.{true};
+ghost use mathlib.Core.Path.{_≡_};
+ghost use Rattle.std.specs.Of.Vec.{vec-len, vec-items};
 ghost use Rattle.cards.specs.Bounds.{step-bound, task-bound, depth, line-count, object-bound};
+ghost use Rattle.cards.specs.Literals.{all-literals, block-literals};
 ghost use Rattle.cards.specs.Trees.{block-of};
 use crate::lines::KindName;
 use crate::lines::OrderName;
@@ -16,6 +19,8 @@ pub struct Card {
     pub(crate) order: OrderName,
     pub(crate) words: Vec<i16>,
     pub(crate) body: Block,
+    ghost literals: { all-literals (vec-items words) ≡ true },
+    ghost body_literals: { block-literals (block-of body) ≡ true },
     ghost an_object: { 1 ≤ vec-len words },
     ghost objects: { vec-len words ≤ 16 },
     ghost lines: { line-count (block-of body) ≤ 256 },

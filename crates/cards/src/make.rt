@@ -2,6 +2,8 @@
 ghost use mathlib.Core.Path.{_≡_};
 ghost use Rattle.std.specs.Vec.{made};
 ghost use Rattle.std.specs.Of.Vec.{vec-items};
+ghost use mathlib.Core.Bool.{true};
+ghost use Rattle.cards.specs.Literals.{is-literal, all-literals};
 ghost use Rattle.cards.specs.Trees.{block-of};
 ghost use Rattle.cards.specs.Cards.{card-of, blank, Makes};
 use crate::card::Card;
@@ -23,12 +25,28 @@ pub enum Limit {
     Steps,
 }
 
+// A word is a literal by its type: this states the fact, and there is nothing to do.
+fn be_literal(word: i16)
+    ensures { λ _. ⌜ is-literal word ≡ true ⌝ }
+{
+    let _ = word;
+}
+
+fn be_literals(words: &[i16])
+    ensures { λ _. ⌜ all-literals (now (words .entry)) ≡ true ⌝ }
+{
+    for word in words {
+        be_literal(*word);
+    }
+}
+
 impl Card {
     // The card of these parts, or the first limit that it would break.
     pub fn new(kind: KindName, order: OrderName, words: Vec<i16>, body: Block) -> Result<Card, Limit>
         ensures { λ r. ⌜ Makes (record { kind = kind; order = order; words = vec-items words; body = block-of body }) r ⌝ }
     {
         let extent = block_extent(&body);
+        be_literals(&words);
         if words.is_empty() || words.len() > 16 {
             return Err(Limit::Objects);
         }

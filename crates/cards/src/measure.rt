@@ -3,6 +3,8 @@ ghost use mathlib.Core.Path.{_≡_};
 ghost use Prim.Native.Nat.{ℕ, _+_, _*_, _≤_, min, max};
 ghost use lib.ListN.{length};
 ghost use Rattle.std.specs.Of.Vec.{vec-items};
+ghost use mathlib.Core.Bool.{true};
+ghost use Rattle.cards.specs.Literals.{is-literal, block-literals, statement-literals};
 ghost use Rattle.cards.specs.Measures.{Measures, Measures-block, Measures-statement};
 ghost use Rattle.cards.specs.Trees.{block-of, statement-of};
 use crate::extent::Extent;
@@ -38,6 +40,15 @@ impl Extent {
         ensures { λ r. ⌜ Measures 1 0 0 lines objects r ⌝ }
     {
         Extent { steps: 1, tasks: 0, depth: 0, lines: lines.min(LINES), objects }
+    }
+
+    // A `set`, whose literal is in range by its type.
+    fn setting(literal: i16) -> Extent
+        ensures measures { λ r. ⌜ Measures 1 0 0 1 0 r ⌝ }
+        ensures literal { λ _. ⌜ is-literal literal ≡ true ⌝ }
+    {
+        let _ = literal;
+        Extent::single(1, 0)
     }
 
     // Statements one after the other.
@@ -107,7 +118,8 @@ impl Section {
 }
 
 pub(crate) fn block_extent(block: &Block) -> Extent
-    ensures { λ r. ⌜ Measures-block (block-of (now (block .entry))) r ⌝ }
+    ensures measures { λ r. ⌜ Measures-block (block-of (now (block .entry))) r ⌝ }
+    ensures literals { λ _. ⌜ block-literals (block-of (now (block .entry))) ≡ true ⌝ }
 {
     match block {
         Block::End => Extent::nothing(),
@@ -116,10 +128,11 @@ pub(crate) fn block_extent(block: &Block) -> Extent
 }
 
 fn statement_extent(statement: &Statement) -> Extent
-    ensures { λ r. ⌜ Measures-statement (statement-of (now (statement .entry))) r ⌝ }
+    ensures measures { λ r. ⌜ Measures-statement (statement-of (now (statement .entry))) r ⌝ }
+    ensures literals { λ _. ⌜ statement-literals (statement-of (now (statement .entry))) ≡ true ⌝ }
 {
     match statement {
-        Statement::Set { word: _, literal: _ } => Extent::single(1, 0),
+        Statement::Set { word: _, literal } => Extent::setting(*literal),
         Statement::Add { left: _, right: _ } => Extent::single(1, 0),
         Statement::Point { pointer: _, object } => Extent::single(1, 1 + u32::from(*object)),
         Statement::Alias { left: _, right: _ } => Extent::single(1, 0),

@@ -5,7 +5,14 @@
 // `Tally` is two's complement, `Flags` a set of 32 bits.
 ghost use mathlib.Core.Path.{_≡_};
 ghost use Rattle.kinds.specs.Kinds.{Kind, Lawful};
-ghost use Rattle.kinds.specs.Values.{tally, flags};
+
+mod flags;
+mod tally;
+
+pub use flags::Flags;
+pub use flags::FlagsKind;
+pub use tally::Tally;
+pub use tally::TallyKind;
 
 pub trait ValueKind: Sized {
     ghost kind: { Self → Kind };
@@ -28,60 +35,4 @@ pub trait ValueKind: Sized {
     // The number that a sheet prints for a word.
     fn number(&self, a: u32) -> i64
         ensures { λ r. ⌜ r ≡ kind (now (self .entry)) .number a ⌝ };
-}
-
-// Words in two's complement; joining adds.
-#[derive(Clone, Copy)]
-pub struct Tally;
-
-pub impl ValueKind for Tally as TallyKind {
-    ghost kind = { λ _. tally };
-
-    fn literal(&self, z: i16) -> u32 {
-        i32::from(z).cast_unsigned()
-    }
-
-    fn add(&self, a: u32, b: u32) -> u32 {
-        a.wrapping_add(b)
-    }
-
-    fn join(&self, a: u32, b: u32) -> u32 {
-        a.wrapping_add(b)
-    }
-
-    fn less(&self, a: u32, b: u32) -> bool {
-        a.cast_signed() < b.cast_signed()
-    }
-
-    fn number(&self, a: u32) -> i64 {
-        i64::from(a.cast_signed())
-    }
-}
-
-// Words as sets of 32 bits; joining unites.
-#[derive(Clone, Copy)]
-pub struct Flags;
-
-pub impl ValueKind for Flags as FlagsKind {
-    ghost kind = { λ _. flags };
-
-    fn literal(&self, z: i16) -> u32 {
-        i32::from(z).cast_unsigned()
-    }
-
-    fn add(&self, a: u32, b: u32) -> u32 {
-        a ^ b
-    }
-
-    fn join(&self, a: u32, b: u32) -> u32 {
-        a | b
-    }
-
-    fn less(&self, a: u32, b: u32) -> bool {
-        a & b == a && a != b
-    }
-
-    fn number(&self, a: u32) -> i64 {
-        i64::from(a)
-    }
 }

@@ -1,0 +1,2 @@
+pub mod CardOrders
+pub mod Schedulers
