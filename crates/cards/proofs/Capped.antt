@@ -14,7 +14,7 @@ capped-rounds (suc c) v w k e =
     ⊎-elim
     (λ h. let same : v ≡ w = omega arith in ap (λ n. min (suc c * n) k) same)
     (λ h.
-      let lv : k ≤ suc c * v = omega (arith, mul-le-mul-right v one) in
-      let lw : k ≤ suc c * w = omega (arith, mul-le-mul-right w one) in
-      rw (min-eq-right lv, min-eq-right lw))
+    let lv : k ≤ suc c * v = omega (arith, mul-le-mul-right v one) in
+    let lw : k ≤ suc c * w = omega (arith, mul-le-mul-right w one) in
+    rw (min-eq-right lv, min-eq-right lw))
     (cases-lt v k)

@@ -42,7 +42,12 @@ fn be_literals(words: &[i16])
 
 impl Card {
     // The card of these parts, or the first limit that it would break.
-    pub fn new(kind: KindName, order: OrderName, words: Vec<i16>, body: Block) -> Result<Card, Limit>
+    pub fn new(
+        kind: KindName,
+        order: OrderName,
+        words: Vec<i16>,
+        body: Block,
+    ) -> Result<Card, Limit>
         ensures { λ r. ⌜ Makes (record { kind = kind; order = order; words = vec-items words; body = block-of body }) r ⌝ }
     {
         let extent = block_extent(&body);
@@ -65,7 +70,12 @@ impl Card {
         if extent.steps > 999_999 {
             return Err(Limit::Steps);
         }
-        Ok(Card { kind, order, words, body })
+        Ok(Card {
+            kind,
+            order,
+            words,
+            body,
+        })
     }
 
     // Tally, first, one object 0, no lines.
@@ -74,7 +84,12 @@ impl Card {
     {
         let mut words = Vec::new(heap);
         words.push(0)?;
-        Ok(Card { kind: KindName::Tally, order: OrderName::First, words, body: Block::End })
+        Ok(Card {
+            kind: KindName::Tally,
+            order: OrderName::First,
+            words,
+            body: Block::End,
+        })
     }
 
     pub fn kind(&self) -> KindName

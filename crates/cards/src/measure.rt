@@ -14,8 +14,11 @@ use crate::tree::Statement;
 
 // One past the most steps, tasks, depth, lines and objects of a card.
 const STEPS: u32 = 1_000_001;
+
 const TASKS: u32 = 65;
+
 const DEPTH: u32 = 9;
+
 const LINES: u32 = 257;
 
 // So many rounds of what takes `once`, up to a cap.
@@ -30,7 +33,13 @@ impl Extent {
     fn nothing() -> Extent
         ensures { λ r. ⌜ Measures 0 0 0 0 0 r ⌝ }
     {
-        Extent { steps: 0, tasks: 0, depth: 0, lines: 0, objects: 0 }
+        Extent {
+            steps: 0,
+            tasks: 0,
+            depth: 0,
+            lines: 0,
+            objects: 0,
+        }
     }
 
     // A statement of one step, in a number of lines, that needs a number of objects.
@@ -39,7 +48,13 @@ impl Extent {
         requires objects { ⌜ objects ≤ 256 ⌝ }
         ensures { λ r. ⌜ Measures 1 0 0 lines objects r ⌝ }
     {
-        Extent { steps: 1, tasks: 0, depth: 0, lines: lines.min(LINES), objects }
+        Extent {
+            steps: 1,
+            tasks: 0,
+            depth: 0,
+            lines: lines.min(LINES),
+            objects,
+        }
     }
 
     // A `set`, whose literal is in range by its type.
@@ -136,11 +151,31 @@ fn statement_extent(statement: &Statement) -> Extent
         Statement::Add { left: _, right: _ } => Extent::single(1, 0),
         Statement::Point { pointer: _, object } => Extent::single(1, 1 + u32::from(*object)),
         Statement::Alias { left: _, right: _ } => Extent::single(1, 0),
-        Statement::Read { word: _, pointer: _ } => Extent::single(1, 0),
-        Statement::Write { pointer: _, word: _ } => Extent::single(1, 0),
-        Statement::Join { pointer: _, word: _ } => Extent::single(1, 0),
-        Statement::If { left: _, right: _, first } => block_extent(first).within(1, 0, 2),
-        Statement::IfElse { left: _, right: _, first, second } => block_extent(first).either(block_extent(second)).within(1, 0, 3),
+        Statement::Read {
+            word: _,
+            pointer: _,
+        } => Extent::single(1, 0),
+        Statement::Write {
+            pointer: _,
+            word: _,
+        } => Extent::single(1, 0),
+        Statement::Join {
+            pointer: _,
+            word: _,
+        } => Extent::single(1, 0),
+        Statement::If {
+            left: _,
+            right: _,
+            first,
+        } => block_extent(first).within(1, 0, 2),
+        Statement::IfElse {
+            left: _,
+            right: _,
+            first,
+            second,
+        } => block_extent(first)
+            .either(block_extent(second))
+            .within(1, 0, 3),
         Statement::Repeat { count, body } => block_extent(body).times(*count).within(1, 0, 2),
         Statement::Task { section, body } => block_extent(body).within(2, 1, 3 + section.extent()),
         Statement::With { section } => Extent::single(2 + section.extent(), 0),

@@ -17,14 +17,28 @@ impl Section {
     pub fn new(heap: Global) -> Section
         ensures { λ r. ⌜ vec-items (r .lines) ≡ [] ⌝ }
     {
-        Section { lines: Vec::new(heap) }
+        Section {
+            lines: Vec::new(heap),
+        }
     }
 
     // One declaration more, at the end. Without memory for it the section stays as it is.
-    pub fn push(&mut self, line: u32, access: Access, level: Level, pointer: Pointer) -> Result<(), AllocError>
+    pub fn push(
+        &mut self,
+        line: u32,
+        access: Access,
+        level: Level,
+        pointer: Pointer,
+    ) -> Result<(), AllocError>
         ensures { λ r. ⌜ vec-items (now (self .exit) .lines) ≡ cond (isOk r) (vec-items (now (self .entry) .lines) ++ record { line = line; access = access; level = level; pointer = pointer .n } ∷ []) (vec-items (now (self .entry) .lines)) ⌝ }
     {
-        self.lines.push(Declaration { line, access, level, pointer: pointer.n })?;
+        self.lines
+            .push(Declaration {
+                line,
+                access,
+                level,
+                pointer: pointer.n,
+            })?;
         Ok(())
     }
 }

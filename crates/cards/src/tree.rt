@@ -19,16 +19,54 @@ pub struct Step {
 
 #[derive(Drop)]
 pub enum Statement {
-    Set { word: Local, literal: i16 },
-    Add { left: Local, right: Local },
-    Point { pointer: Pointer, object: u8 },
-    Alias { left: Pointer, right: Pointer },
-    Read { word: Local, pointer: Pointer },
-    Write { pointer: Pointer, word: Local },
-    Join { pointer: Pointer, word: Local },
-    If { left: Local, right: Local, first: Block },
-    IfElse { left: Local, right: Local, first: Block, second: Block },
-    Repeat { count: u8, body: Block },
-    Task { section: Section, body: Block },
-    With { section: Section },
+    Set {
+        word: Local,
+        literal: i16,
+    },
+    Add {
+        left: Local,
+        right: Local,
+    },
+    Point {
+        pointer: Pointer,
+        object: u8,
+    },
+    Alias {
+        left: Pointer,
+        right: Pointer,
+    },
+    Read {
+        word: Local,
+        pointer: Pointer,
+    },
+    Write {
+        pointer: Pointer,
+        word: Local,
+    },
+    Join {
+        pointer: Pointer,
+        word: Local,
+    },
+    If {
+        left: Local,
+        right: Local,
+        first: Block,
+    },
+    IfElse {
+        left: Local,
+        right: Local,
+        first: Block,
+        second: Block,
+    },
+    Repeat {
+        count: u8,
+        body: Block,
+    },
+    Task {
+        section: Section,
+        body: Block,
+    },
+    With {
+        section: Section,
+    },
 }

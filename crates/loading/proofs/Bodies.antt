@@ -62,12 +62,14 @@ module _ (h : Header) (s : List ℕ) (c d : Cursor) (begins : Begins c (h .lines
 
     pub body-reads : Ok tt ≡ section-ended q → (read-body h s ≡ Ok b) × Fits-body h b
     body-reads e =
-        let fit = subst (BlockFits (d .objects) 8 (upcoming d)) (a (h .lines + 2) enough) (reads-fit (d .header) (d .objects) (h .lines + 2) (upcoming d) (d .line) 8) in
-        (ended-is (Ok tt) e, record {
-          lines = omega (arith, fit .lines, lines-left);
-          deep = fit .deep;
-          pointed = omega (arith, fit .objects, begins .objects);
-        })
+        let fit = subst (BlockFits (d .objects) 8 (upcoming d)) (a (h .lines + 2) enough) (reads-fit (d .header) (d .objects) (h .lines + 2) (upcoming d) (d .line) 8) in (
+          ended-is (Ok tt) e,
+          record {
+            lines = omega (arith, fit .lines, lines-left);
+            deep = fit .deep;
+            pointed = omega (arith, fit .objects, begins .objects);
+          },
+        )
       where
         lines-left : lines-in (upcoming d) ≤ h .lines
         lines-left = rw upcoming-is (section-lines (h .lines) s (header-lines h + 1))

@@ -42,7 +42,11 @@ pub enum Closer {
 // What a line does in a declaration section.
 #[derive(Clone, Copy)]
 pub enum Mark {
-    More { access: Access, level: Level, pointer: Pointer },
+    More {
+        access: Access,
+        level: Level,
+        pointer: Pointer,
+    },
     Close,
     Wrong,
 }
@@ -52,11 +56,23 @@ fn declare(kind: SectionKind, access: Access, level: Level, pointer: Pointer) ->
     ensures { λ r. ⌜ ((l : ℕ) → mark-of r l ≡ Blocks.declared-in kind l access level (pointer .n)) ⌝ }
 {
     match kind {
-        SectionKind::With => Mark::More { access, level, pointer },
+        SectionKind::With => Mark::More {
+            access,
+            level,
+            pointer,
+        },
         SectionKind::Task => match level {
             Level::Absent => Mark::Wrong,
-            Level::Deferred => Mark::More { access, level, pointer },
-            Level::Immediate => Mark::More { access, level, pointer },
+            Level::Deferred => Mark::More {
+                access,
+                level,
+                pointer,
+            },
+            Level::Immediate => Mark::More {
+                access,
+                level,
+                pointer,
+            },
         },
     }
 }
@@ -82,14 +98,22 @@ fn mark_line(line: Line, kind: SectionKind) -> Mark
     ensures { λ r. ⌜ ((l : ℕ) → mark-of r l ≡ mark (line-of line) kind l) ⌝ }
 {
     match line {
-        Line::Declare { access, level, pointer } => declare(kind, access, level, pointer),
+        Line::Declare {
+            access,
+            level,
+            pointer,
+        } => declare(kind, access, level, pointer),
         Line::Keyword(keyword) => end_section(keyword, kind),
         _ => Mark::Wrong,
     }
 }
 
 // Reads the declarations up to the line that ends the section, after those of `section`.
-fn read_section(lines: &mut Cursor<'_>, kind: SectionKind, mut section: Section) -> Result<Section, LoadRefusal>
+fn read_section(
+    lines: &mut Cursor<'_>,
+    kind: SectionKind,
+    mut section: Section,
+) -> Result<Section, LoadRefusal>
     ensures value { λ r. ⌜ AnswerIs section-of r (read-section (now (lines .entry) .header) kind (section-of section) (upcoming (now (lines .entry))) (now (lines .entry) .line)) (now (lines .exit)) ⌝ }
     ensures forward { λ r. ⌜ made r (λ _. Forward (now (lines .entry)) (now (lines .exit))) ⌝ }
 {
@@ -99,7 +123,11 @@ fn read_section(lines: &mut Cursor<'_>, kind: SectionKind, mut section: Section)
         return Err(LoadRefusal::Line(LineFault::Open { line: number }));
     };
     match mark_line(said, kind) {
-        Mark::More { access, level, pointer } => {
+        Mark::More {
+            access,
+            level,
+            pointer,
+        } => {
             section.push(line, access, level, pointer)?;
             read_section(lines, kind, section)
         }
@@ -134,7 +162,11 @@ fn ended(closer: Closer, next: u32) -> Result<(), LineFault>
 }
 
 // Reads a block and what ends it; blocks below it may nest `depth` deep.
-pub(crate) fn read_block(heap: Global, lines: &mut Cursor<'_>, depth: u8) -> Result<(Block, Closer), LoadRefusal>
+pub(crate) fn read_block(
+    heap: Global,
+    lines: &mut Cursor<'_>,
+    depth: u8,
+) -> Result<(Block, Closer), LoadRefusal>
     ensures value { λ r. ⌜ ((f : ℕ) → length (upcoming (now (lines .entry))) < f → AnswerIs closed-block-of r (read-block (now (lines .entry) .header) (now (lines .entry) .objects) f (upcoming (now (lines .entry))) (now (lines .entry) .line) depth) (now (lines .exit))) ⌝ }
     ensures forward { λ r. ⌜ made r (λ _. Forward (now (lines .entry)) (now (lines .exit))) ⌝ }
 {
@@ -148,12 +180,25 @@ pub(crate) fn read_block(heap: Global, lines: &mut Cursor<'_>, depth: u8) -> Res
     }
     let statement = read_statement(heap, said, number, lines, depth)?;
     let (rest, closer) = read_block(heap, lines, depth)?;
-    let step = Box::new(heap, Step { line, statement, rest })?;
+    let step = Box::new(
+        heap,
+        Step {
+            line,
+            statement,
+            rest,
+        },
+    )?;
     Ok((Block::Then(step), closer))
 }
 
 // Reads what is left of the statement that `said` begins; `number` is its line in the text.
-fn read_statement(heap: Global, said: Line, number: u32, lines: &mut Cursor<'_>, depth: u8) -> Result<Statement, LoadRefusal>
+fn read_statement(
+    heap: Global,
+    said: Line,
+    number: u32,
+    lines: &mut Cursor<'_>,
+    depth: u8,
+) -> Result<Statement, LoadRefusal>
     ensures value { λ r. ⌜ ((f l : ℕ) → number ≡ now (lines .entry) .header + l → length (upcoming (now (lines .entry))) < f → AnswerIs statement-of r (statement-by (now (lines .entry) .header) (now (lines .entry) .objects) (read-block (now (lines .entry) .header) (now (lines .entry) .objects) f) (line-of said) l (upcoming (now (lines .entry))) (now (lines .entry) .line) depth) (now (lines .exit))) ⌝ }
     ensures forward { λ r. ⌜ made r (λ _. Forward (now (lines .entry)) (now (lines .exit))) ⌝ }
 {
@@ -178,7 +223,12 @@ fn read_statement(heap: Global, said: Line, number: u32, lines: &mut Cursor<'_>,
             if let Closer::Else { line: _ } = closer {
                 let (second, closer) = read_block(heap, lines, depth - 1)?;
                 ended(closer, lines.number())?;
-                return Ok(Statement::IfElse { left, right, first, second });
+                return Ok(Statement::IfElse {
+                    left,
+                    right,
+                    first,
+                    second,
+                });
             }
             ended(closer, lines.number())?;
             Ok(Statement::If { left, right, first })
@@ -191,7 +241,11 @@ fn read_statement(heap: Global, said: Line, number: u32, lines: &mut Cursor<'_>,
             ended(closer, lines.number())?;
             Ok(Statement::Repeat { count, body })
         }
-        Line::Declare { access: _, level: _, pointer: _ } => Err(LoadRefusal::Line(LineFault::Misplaced { line: number })),
+        Line::Declare {
+            access: _,
+            level: _,
+            pointer: _,
+        } => Err(LoadRefusal::Line(LineFault::Misplaced { line: number })),
         Line::Keyword(keyword) => match keyword {
             Keyword::Task => {
                 if depth == 0 {

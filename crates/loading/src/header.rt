@@ -221,5 +221,10 @@ pub(crate) fn read_header(heap: Global, lines: &mut Cursor<'_>) -> Result<Header
     let objects = objects_line(lines)?;
     let words = read_literals(heap, lines, objects)?;
     let count = lines_line(lines)?;
-    Ok(Header { kind, order, words, lines: count })
+    Ok(Header {
+        kind,
+        order,
+        words,
+        lines: count,
+    })
 }

@@ -33,15 +33,45 @@ pub enum Verb {
 
 #[derive(Clone, Copy)]
 pub enum Line {
-    Set { word: Local, literal: i16 },
-    Add { left: Local, right: Local },
-    Point { pointer: Pointer, object: u8 },
-    Alias { left: Pointer, right: Pointer },
-    Read { word: Local, pointer: Pointer },
-    Write { pointer: Pointer, word: Local },
-    Join { pointer: Pointer, word: Local },
-    If { left: Local, right: Local },
-    Repeat { count: u8 },
-    Declare { access: Access, level: Level, pointer: Pointer },
+    Set {
+        word: Local,
+        literal: i16,
+    },
+    Add {
+        left: Local,
+        right: Local,
+    },
+    Point {
+        pointer: Pointer,
+        object: u8,
+    },
+    Alias {
+        left: Pointer,
+        right: Pointer,
+    },
+    Read {
+        word: Local,
+        pointer: Pointer,
+    },
+    Write {
+        pointer: Pointer,
+        word: Local,
+    },
+    Join {
+        pointer: Pointer,
+        word: Local,
+    },
+    If {
+        left: Local,
+        right: Local,
+    },
+    Repeat {
+        count: u8,
+    },
+    Declare {
+        access: Access,
+        level: Level,
+        pointer: Pointer,
+    },
     Keyword(Keyword),
 }

@@ -122,10 +122,7 @@ fn first_word(token: Token<'_>) -> Result<Verb, WordFault>
     ensures { λ r. ⌜ r ≡ read-by verb (seen (token .entry)) ⌝ }
 {
     match token {
-        Token::Word { bytes, place } => match read_verb(bytes) {
-            Some(v) => Ok(v),
-            None => Err(WordFault::Unfit(place)),
-        },
+        Token::Word { bytes, place } => read_verb(bytes).ok_or(WordFault::Unfit(place)),
         Token::Absent { place } => Err(WordFault::Missing(place)),
     }
 }
@@ -231,7 +228,11 @@ fn read_operands(verb: Verb, t: Tokens<'_>) -> Result<Line, WordFault>
         Verb::Declare(access, level) => {
             let pointer = t.second.pointer()?;
             t.third.nothing()?;
-            Ok(Line::Declare { access, level, pointer })
+            Ok(Line::Declare {
+                access,
+                level,
+                pointer,
+            })
         }
         Verb::Bare(keyword) => {
             t.second.nothing()?;

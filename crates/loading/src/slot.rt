@@ -40,7 +40,13 @@ fn begin_section<'a>(lines: Cursor<'a>, left: u16, objects: u8) -> Cursor<'a>
     ensures { λ r. ⌜ Begins (lines .entry) left objects r ⌝ }
 {
     let header = lines.number() - 1;
-    Cursor { rest: lines.rest, header, line: 1, left: u32::from(left), objects }
+    Cursor {
+        rest: lines.rest,
+        header,
+        line: 1,
+        left: u32::from(left),
+        objects,
+    }
 }
 
 // Main's block is ended by the end of the section.
@@ -91,7 +97,13 @@ fn read_card(heap: Global, text: &[u8]) -> Result<Card, LoadRefusal>
     if text.len() > MOST_BYTES {
         return Err(LoadRefusal::TooLong);
     }
-    let mut lines = Cursor { rest: text, header: 0, line: 1, left: 0, objects: 0 };
+    let mut lines = Cursor {
+        rest: text,
+        header: 0,
+        line: 1,
+        left: 0,
+        objects: 0,
+    };
     let header = read_header(heap, &mut lines)?;
     let body = read_body(heap, lines, &header)?;
     bound(header, body)

@@ -24,15 +24,47 @@ impl LineFault {
         match self {
             LineFault::Word(fault) => {
                 let at = place(fault);
-                Told { number: 2, line: at.line, word: at.word }
+                Told {
+                    number: 2,
+                    line: at.line,
+                    word: at.word,
+                }
             }
-            LineFault::Missing { line } => Told { number: 2, line, word: 0 },
-            LineFault::Unended { line } => Told { number: 2, line, word: 0 },
-            LineFault::Surplus { line } => Told { number: 2, line, word: 0 },
-            LineFault::Misplaced { line } => Told { number: 3, line, word: 0 },
-            LineFault::TooDeep { line } => Told { number: 3, line, word: 0 },
-            LineFault::Open { line } => Told { number: 3, line, word: 0 },
-            LineFault::NoObject { line } => Told { number: 4, line, word: 0 },
+            LineFault::Missing { line } => Told {
+                number: 2,
+                line,
+                word: 0,
+            },
+            LineFault::Unended { line } => Told {
+                number: 2,
+                line,
+                word: 0,
+            },
+            LineFault::Surplus { line } => Told {
+                number: 2,
+                line,
+                word: 0,
+            },
+            LineFault::Misplaced { line } => Told {
+                number: 3,
+                line,
+                word: 0,
+            },
+            LineFault::TooDeep { line } => Told {
+                number: 3,
+                line,
+                word: 0,
+            },
+            LineFault::Open { line } => Told {
+                number: 3,
+                line,
+                word: 0,
+            },
+            LineFault::NoObject { line } => Told {
+                number: 4,
+                line,
+                word: 0,
+            },
         }
     }
 }
@@ -43,10 +75,22 @@ impl LoadRefusal {
         ensures { λ r. ⌜ r ≡ told self ⌝ }
     {
         match self {
-            LoadRefusal::TooLong => Some(Told { number: 1, line: 0, word: 0 }),
+            LoadRefusal::TooLong => Some(Told {
+                number: 1,
+                line: 0,
+                word: 0,
+            }),
             LoadRefusal::Line(fault) => Some(fault.told()),
-            LoadRefusal::TooManyTasks => Some(Told { number: 5, line: 0, word: 0 }),
-            LoadRefusal::TooManySteps => Some(Told { number: 6, line: 0, word: 0 }),
+            LoadRefusal::TooManyTasks => Some(Told {
+                number: 5,
+                line: 0,
+                word: 0,
+            }),
+            LoadRefusal::TooManySteps => Some(Told {
+                number: 6,
+                line: 0,
+                word: 0,
+            }),
             LoadRefusal::Memory => None,
         }
     }

@@ -25,7 +25,11 @@ use working::Outcome;
 use working::work_serially;
 
 // The sheet of a card under a kind, by serial working.
-pub fn serial_sheet<K: ValueKind>(heap: Global, kind: &K, card: &Card) -> Result<Vec<u8>, AllocError>
+pub fn serial_sheet<K: ValueKind>(
+    heap: Global,
+    kind: &K,
+    card: &Card,
+) -> Result<Vec<u8>, AllocError>
     ensures { λ r. ⌜ made r (λ v. vec-items v ≡ sheet-of (K·ValueKind .kind (now (kind .entry))) (card-of (now (card .entry)))) ⌝ }
 {
     let worked = work_serially(heap, kind, card)?;
@@ -33,9 +37,11 @@ pub fn serial_sheet<K: ValueKind>(heap: Global, kind: &K, card: &Card) -> Result
     let steps = worked.steps;
     match worked.outcome {
         Outcome::Words(words) => run_sheet(heap, kind, made, steps, &words),
-        Outcome::Fault { kind: fault, line, place } => {
-            fault_sheet(heap, fault, line, &place.ranks[0..place.depth as usize])
-        }
+        Outcome::Fault {
+            kind: fault,
+            line,
+            place,
+        } => { fault_sheet(heap, fault, line, &place.ranks[0..place.depth as usize]) }
     }
 }
 

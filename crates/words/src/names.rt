@@ -23,8 +23,12 @@ pub(crate) fn read_name(s: &[u8]) -> Option<Name>
     };
     let rest = tail(s);
     match *first as char {
-        'n' => Some(Name::Local(Local { n: read_number(rest, 3)? as u8 })),
-        'p' => Some(Name::Pointer(Pointer { n: read_number(rest, 3)? as u8 })),
+        'n' => Some(Name::Local(Local {
+            n: read_number(rest, 3)? as u8,
+        })),
+        'p' => Some(Name::Pointer(Pointer {
+            n: read_number(rest, 3)? as u8,
+        })),
         'o' => Some(Name::Object(read_number(rest, 15)? as u8)),
         _ => None,
     }

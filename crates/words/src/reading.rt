@@ -63,10 +63,7 @@ impl<'a> Token<'a> {
         ensures { λ r. ⌜ r ≡ as-literal (seen (self .entry)) ⌝ }
     {
         match self {
-            Token::Word { bytes, place } => match read_literal(bytes) {
-                Some(v) => Ok(v),
-                None => Err(WordFault::Unfit(place)),
-            },
+            Token::Word { bytes, place } => read_literal(bytes).ok_or(WordFault::Unfit(place)),
             Token::Absent { place } => Err(WordFault::Missing(place)),
         }
     }

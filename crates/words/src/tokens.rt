@@ -77,5 +77,10 @@ pub fn tokenize<'a>(bytes: &'a [u8], line: u32) -> Tokens<'a>
     let (second, rest) = split(rest, Place { line, word: 2 });
     let (third, rest) = split(rest, Place { line, word: 3 });
     let (fourth, _) = split(rest, Place { line, word: 4 });
-    Tokens { first, second, third, fourth }
+    Tokens {
+        first,
+        second,
+        third,
+        fourth,
+    }
 }

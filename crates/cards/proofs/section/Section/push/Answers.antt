@@ -15,10 +15,11 @@ below-grown true n m i e h = ⊎-elim (λ l. inl l) (λ l. inr (refl, omega arit
 below-grown false n m i e h = inl (omega arith)
 
 pub ghost-self : need.ghost-self
-ghost-self c =
-    (λ i h.
+ghost-self c = (
+  λ i h.
       ⊎-elim
       (λ l. subst (λ x. x .pointer < 4) (sym (c .push .ensures .places .0 i no-declaration l)) (c .args .self .now .pointers i l))
       (λ p. subst (λ x. x .pointer < 4) (sym (ap (λ k. getD (vec-items (c .push .last .self)) k no-declaration) (p .1) ∙ c .push .ensures .places .1 no-declaration (p .0))) (c .args .pointer .small))
       (below-grown _ _ _ i (c .push .ensures .len) h),
-     tt)
+  tt,
+)
