@@ -8,6 +8,10 @@ ghost use Rattle.std.specs.Vec.{made};
 ghost use Rattle.cards.specs.Cards.{card-of};
 ghost use Rattle.sheets.specs.Sheets.{sheet-of};
 ghost use Rattle.runner.specs.Texts as Texts;
+mod rows;
+
+pub use rows::worked_rows;
+
 use cards::Card;
 use cards::KindName;
 use kinds::Flags;
@@ -68,3 +72,6 @@ pub fn text_sheet(heap: Global, text: &[u8]) -> Result<Vec<u8>, AllocError>
         },
     }
 }
+
+#[cfg(test)]
+mod tests;
