@@ -1,4 +1,7 @@
-// Cards.
+// Cards: what a text becomes once it is read.
+//
+// `Card` holds a kind's name, an order's name, the starting words and main's block, and no card breaks a limit:
+// `Card::new` answers the first limit that one would break. `Block` and `Statement` are the code as a tree.
 mod card;
 mod extent;
 mod lines;

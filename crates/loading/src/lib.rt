@@ -1,4 +1,7 @@
-// Loading.
+// Loading: a text becomes a card in a slot, or a refusal says why it is none.
+//
+// `Slot` holds a card, always one within its limits; `Slot::load` reads a text into it. `LoadRefusal` is a word's
+// fault inside a line's fault inside the refusal, and `Told` its number, line and word.
 mod blocks;
 mod cursor;
 mod header;
@@ -9,13 +12,6 @@ mod slot;
 mod tell;
 mod texts;
 
-pub use blocks::Closer;
-pub use blocks::Mark;
-pub use blocks::SectionKind;
-pub use header::Header;
-pub use line::Keyword;
-pub use line::Line;
-pub use line::Verb;
 pub use refusal::LineFault;
 pub use refusal::LoadRefusal;
 pub use refusal::Told;

@@ -6,14 +6,14 @@ ghost use Rattle.sheets.specs.Sheets.{line, numbers, place-text, ranks-text};
 use kinds::ValueKind;
 use std::alloc::AllocError;
 
-pub fn text(out: &mut Vec<u8>, bytes: &[u8]) -> Result<(), AllocError>
+pub(crate) fn text(out: &mut Vec<u8>, bytes: &[u8]) -> Result<(), AllocError>
     ensures { λ r. ⌜ Appends (now (out .entry)) (now (out .exit)) (now (bytes .entry)) r ⌝ }
 {
     out.extend_from_slice(bytes)
 }
 
 // The digits of a number, with no leading zero.
-pub fn decimal(out: &mut Vec<u8>, n: u64) -> Result<(), AllocError>
+pub(crate) fn decimal(out: &mut Vec<u8>, n: u64) -> Result<(), AllocError>
     ensures { λ r. ⌜ Appends (now (out .entry)) (now (out .exit)) (decimal n) r ⌝ }
 {
     if n >= 10 {
@@ -23,7 +23,7 @@ pub fn decimal(out: &mut Vec<u8>, n: u64) -> Result<(), AllocError>
 }
 
 // The digits of a number, behind a minus sign if it is below zero.
-pub fn signed(out: &mut Vec<u8>, z: i64) -> Result<(), AllocError>
+pub(crate) fn signed(out: &mut Vec<u8>, z: i64) -> Result<(), AllocError>
     ensures { λ r. ⌜ Appends (now (out .entry)) (now (out .exit)) (signed z) r ⌝ }
 {
     if z < 0 {
@@ -33,7 +33,7 @@ pub fn signed(out: &mut Vec<u8>, z: i64) -> Result<(), AllocError>
 }
 
 // A line of a word and a text.
-pub fn line(out: &mut Vec<u8>, word: &[u8], rest: &[u8]) -> Result<(), AllocError>
+pub(crate) fn line(out: &mut Vec<u8>, word: &[u8], rest: &[u8]) -> Result<(), AllocError>
     ensures { λ r. ⌜ Appends (now (out .entry)) (now (out .exit)) (now (word .entry) ++ (32 ∷ (now (rest .entry) ++ (10 ∷ [])))) r ⌝ }
 {
     text(out, word)?;
@@ -43,7 +43,7 @@ pub fn line(out: &mut Vec<u8>, word: &[u8], rest: &[u8]) -> Result<(), AllocErro
 }
 
 // A line of a word and a number.
-pub fn count(out: &mut Vec<u8>, word: &[u8], n: u64) -> Result<(), AllocError>
+pub(crate) fn count(out: &mut Vec<u8>, word: &[u8], n: u64) -> Result<(), AllocError>
     ensures { λ r. ⌜ Appends (now (out .entry)) (now (out .exit)) (now (word .entry) ++ (32 ∷ (decimal n ++ (10 ∷ [])))) r ⌝ }
 {
     text(out, word)?;
@@ -53,7 +53,7 @@ pub fn count(out: &mut Vec<u8>, word: &[u8], n: u64) -> Result<(), AllocError>
 }
 
 // A point and a number for each rank of a task's place.
-pub fn ranks(out: &mut Vec<u8>, place: &[u8]) -> Result<(), AllocError>
+pub(crate) fn ranks(out: &mut Vec<u8>, place: &[u8]) -> Result<(), AllocError>
     ensures { λ r. ⌜ Appends (now (out .entry)) (now (out .exit)) (ranks-text (now (place .entry))) r ⌝ }
 {
     for rank in place {
@@ -64,7 +64,7 @@ pub fn ranks(out: &mut Vec<u8>, place: &[u8]) -> Result<(), AllocError>
 }
 
 // The number of each word, one a line.
-pub fn numbers<K: ValueKind>(out: &mut Vec<u8>, kind: &K, words: &[u32]) -> Result<(), AllocError>
+pub(crate) fn numbers<K: ValueKind>(out: &mut Vec<u8>, kind: &K, words: &[u32]) -> Result<(), AllocError>
     ensures { λ r. ⌜ Appends (now (out .entry)) (now (out .exit)) (numbers (K·ValueKind .kind (now (kind .entry))) (now (words .entry))) r ⌝ }
 {
     for word in words {
@@ -75,7 +75,7 @@ pub fn numbers<K: ValueKind>(out: &mut Vec<u8>, kind: &K, words: &[u32]) -> Resu
 }
 
 // The line of a task's place.
-pub fn task(out: &mut Vec<u8>, place: &[u8]) -> Result<(), AllocError>
+pub(crate) fn task(out: &mut Vec<u8>, place: &[u8]) -> Result<(), AllocError>
     ensures { λ r. ⌜ Appends (now (out .entry)) (now (out .exit)) (line "task" (place-text (now (place .entry))) []) r ⌝ }
 {
     text(out, b"task main")?;
