@@ -1,5 +1,4 @@
 -- The bounds that a card keeps to: steps, tasks, lines, depth and objects.
-use mathlib.Core.List.{List}
 use Prim.Native.Nat.{ℕ, suc, _+_, _*_, _≤_, max}
 use lib.ListN.{length}
 use Rattle.cards.specs.Code.{Block, end, next, Statement, Card}

@@ -1,5 +1,4 @@
 -- The code that a tree stands for.
-use Prim.Native.Nat.{ℕ}
 use Rattle.std.specs.Of.Vec.{vec-items}
 use Rattle.cards.specs.Code
 use Rattle.cards.specs.declared.tree.Block.{Block}

@@ -1,6 +1,6 @@
 // Measures code, so that a card can be held to its limits whatever its nesting.
 ghost use mathlib.Core.Path.{_≡_};
-ghost use Prim.Native.Nat.{ℕ, _+_, _*_, _≤_, min, max};
+ghost use Prim.Native.Nat.{_+_, _*_, _≤_, min, max};
 ghost use lib.ListN.{length};
 ghost use Rattle.std.specs.Of.Vec.{vec-items};
 ghost use mathlib.Core.Bool.{true};

@@ -7,7 +7,7 @@ use lib.Signed.{_≤ℤ_}
 use lib.Bits.{bitOr, or-step, or-comm, or-lt, xor-lt}
 use lib.Arith.{bin-ind}
 use mir.Syntax.{w32}
-use mir.Val.{toZ, ofZ}
+use mir.Val.{ofZ}
 use Rattle.std.proofs.shelf.Signed.{ints, ofZ-toZ}
 use Rattle.kinds.specs.Kinds.{IsWord, Lawful}
 use Rattle.kinds.specs.Values.{pattern, sum, signed, tally, flags}

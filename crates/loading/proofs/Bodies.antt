@@ -1,9 +1,8 @@
 -- The lines section read as main's block, and a text as a card.
-use Prim.Native.Nat.{ℕ, suc, _+_, _≤_, _<_}
+use Prim.Native.Nat.{ℕ, _+_, _≤_, _<_}
 use mathlib.Core.Path.{_≡_, sym, ap, subst, _∙_}
 use mathlib.Core.List.{List}
 use native.Mathlib.Omega.{arith}
-use lib.Dec.{ltb}
 use lib.ListN.{length}
 use Rattle.std.proofs.shelf.Tests.{le-ltb, cond-false}
 use Rattle.std.specs.declared.result.Result.{Result}
@@ -18,7 +17,7 @@ use Rattle.loading.specs.declared.blocks.Closer.{Closer}
 use Rattle.loading.specs.Texts.{Said, section, rest-of, text-number, upcoming}
 use Rattle.loading.specs.Blocks.{Out, got, bad, read-block, AnswerIs}
 use Rattle.loading.specs.Headers.{Header, read-header, HeaderIs}
-use Rattle.loading.specs.Loading.{section-ended, main-block, whole-section, header-lines, read-body, after-body, after-header, reading, refused, Begins, BodyIs, Fits-body, ReadingIs}
+use Rattle.loading.specs.Loading.{section-ended, main-block, whole-section, header-lines, read-body, after-body, after-header, reading, Begins, BodyIs, Fits-body, ReadingIs}
 use Rattle.loading.proofs.Fits.{lines-in, section-lines, section-length, BlockFits, reads-fit}
 
 module _ (h : Header) (s : List ℕ) (c d : Cursor) (begins : Begins c (h .lines) (length (h .words)) d) (number : text-number c ≡ 6 + length (h .words)) (text : rest-of c ≡ s) where

@@ -26,7 +26,7 @@ use Rattle.loading.specs.declared.blocks.SectionKind.{SectionKind}
 use Rattle.loading.specs.declared.blocks.SectionKind.the-variants as S
 use Rattle.loading.specs.Lines as Lines
 use Rattle.loading.specs.Lines.{Line, line-said}
-use Rattle.loading.specs.Texts.{Said, text-line, onto, by-line, at-end, section}
+use Rattle.loading.specs.Texts.{Said, text-line, onto, by-line, section}
 use Rattle.loading.specs.Blocks.{Out, got, bad, bind, Mark, more, close, wrong, mark, by-mark, read-section, closer, ended, whole, Reader, arms, deeper, statement-by, followed, by-closer, block-by, read-block}
 
 -- how many lines are there to be read before a fault

@@ -1,6 +1,6 @@
 -- Reading the lines section: a block is made of statements, and a statement may hold blocks.
 -- Lines are counted from 1 in the section; a fault names the line of the text, which is h lines further on.
-use Prim.Native.Nat.{ℕ, zero, suc, _+_, _-_, _≤_, _<_}
+use Prim.Native.Nat.{ℕ, zero, suc, _+_, _-_, _≤_}
 use mathlib.Core.Path.{_≡_}
 use mathlib.Core.Bool.{cond}
 use mathlib.Core.List.{List, [], _∷_, _++_}
@@ -26,7 +26,6 @@ use Rattle.loading.specs.declared.refusal.LoadRefusal.the-variants as R
 use Rattle.loading.specs.declared.cursor.Cursor.{Cursor}
 use Rattle.loading.specs.declared.line.Keyword.{Keyword}
 use Rattle.loading.specs.declared.line.Keyword.the-variants as K
-use Rattle.loading.specs.declared.line.Line as Rust
 use Rattle.loading.specs.declared.blocks.Closer.{Closer}
 use Rattle.loading.specs.declared.blocks.Closer.the-variants as C
 use Rattle.loading.specs.declared.blocks.Mark as Marks
@@ -34,7 +33,7 @@ use Rattle.loading.specs.declared.blocks.Mark.the-variants as M
 use Rattle.loading.specs.declared.blocks.SectionKind.{SectionKind}
 use Rattle.loading.specs.declared.blocks.SectionKind.the-variants as S
 use Rattle.loading.specs.Lines as Lines
-use Rattle.loading.specs.Lines.{Line, line-of}
+use Rattle.loading.specs.Lines.{Line}
 use Rattle.loading.specs.Texts.{Said, upcoming}
 
 -- a value, the lines still to come and the number of the first of them; or a fault

@@ -1,5 +1,5 @@
 -- The refusals of a text: each case's number, line and word.
-use mathlib.Core.Option.{Option, none, some}
+use mathlib.Core.Option.{Option}
 use Prim.Native.Nat.{ℕ}
 use Rattle.words.specs.declared.tokens.Place.{Place}
 use Rattle.words.specs.declared.fault.WordFault.{WordFault}

@@ -1,7 +1,7 @@
 // Reads a line of the lines section.
 ghost use mathlib.Core.Path.{_≡_};
-ghost use Rattle.words.specs.Tokens.{words, seen, Seen};
-ghost use Rattle.words.specs.Reading.{read-by, local-word, pointer-word, object-word, as-literal, as-number, no-word};
+ghost use Rattle.words.specs.Tokens.{words, seen};
+ghost use Rattle.words.specs.Reading.{read-by, local-word, pointer-word, object-word, as-literal};
 ghost use Rattle.loading.specs.Lines.{find, statements, keywords, declarations, verb, operands, line-said, said, both, pair};
 use crate::line::Keyword;
 use crate::line::Line;

@@ -1,5 +1,5 @@
 -- A sheet by what it was made of.
-use mathlib.Core.Path.{_≡_, refl, sym, ap, _∙_}
+use mathlib.Core.Path.{_≡_, sym, ap, _∙_}
 use mathlib.Core.List.{List}
 use mathlib.Core.Option.{some}
 use Prim.Native.Nat.{ℕ}
@@ -9,7 +9,7 @@ use Rattle.std.specs.Of.Vec.{vec-items}
 use Rattle.std.specs.Vec.{made}
 use Rattle.std.specs.declared.alloc.AllocError.{AllocError}
 use Rattle.std.specs.declared.alloc.Global.{Global}
-use Rattle.std.specs.declared.option.Option.the-variants.{Some, None}
+use Rattle.std.specs.declared.option.Option.the-variants.{Some}
 use Rattle.std.specs.declared.result.Result.{Result}
 use Rattle.std.specs.declared.result.Result.the-variants.{Ok, Err}
 use Rattle.std.specs.declared.vec.Vec.{Vec}
@@ -20,7 +20,7 @@ use Rattle.loading.specs.declared.refusal.LoadRefusal.the-variants.{TooLong, Li
 use Rattle.loading.specs.declared.refusal.Told.{Told}
 use Rattle.loading.specs.declared.slot.Slot.{Slot}
 use Rattle.loading.specs.Refusals.{told}
-use Rattle.loading.specs.Loading.{reading, accepted, refused, Loads}
+use Rattle.loading.specs.Loading.{reading, accepted, Loads}
 use Rattle.working.specs.declared.fault.FaultKind.{FaultKind}
 use Rattle.working.specs.Serial.{Outcome, words, fault, Result as Came, serially}
 use Rattle.sheets.specs.Sheets.{run-sheet, fault-sheet, refused-sheet, outcome-sheet, result-sheet, sheet-of}

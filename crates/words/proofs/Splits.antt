@@ -1,14 +1,13 @@
 -- A line's words, by its first space.
-use Prim.Native.Nat.{ℕ, suc, _+_, _<_}
+use Prim.Native.Nat.{ℕ}
 use mathlib.Core.Path.{_≡_, refl, sym, ap, _∙_}
-use mathlib.Core.Bool.{Bool, true, false, not, cond}
+use mathlib.Core.Bool.{Bool, true, false}
 use mathlib.Core.List.{List, [], _∷_}
 use native.Mathlib.Numerals.{add-one, one-add}
 use native.Mathlib.Omega.{arith}
-use lib.Dec.{eqb, ltb}
-use lib.ListN.{length, take, drop}
+use lib.Dec.{eqb}
 use Rattle.std.proofs.shelf.Tests.{false≢true, lt-ltb, ltb-true, ltb-false, le-ltb}
-use Rattle.words.specs.Cuts.{upto, has, before, after}
+use Rattle.words.specs.Cuts.{has, before, after}
 use Rattle.words.specs.Tokens.{words, onto}
 
 pub words-has : (s : List ℕ) → has 32 s ≡ true → words s ≡ before 32 s ∷ words (after 32 s)

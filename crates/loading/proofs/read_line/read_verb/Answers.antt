@@ -1,5 +1,5 @@
 use mathlib.Core.Path.{ap, _∙_}
-use Rattle.loading.specs.Lines.{find, statements, keywords, declarations, or-else, verb}
+use Rattle.loading.specs.Lines.{find, keywords, declarations, or-else, verb}
 use Rattle.loading.proofs.read_line.read_verb.Needs as need
 
 pub returns-in-Some : need.returns-in-Some

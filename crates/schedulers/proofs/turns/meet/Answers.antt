@@ -1,5 +1,4 @@
 use mathlib.Core.Path.{sym, _∙_}
-use native.Mathlib.Omega.{arith}
 use Rattle.schedulers.proofs.Rounds.{met-stop, met-end}
 use Rattle.schedulers.proofs.turns.meet.Needs as need
 

@@ -1,6 +1,4 @@
 use borrow.Author.Needs.{needs}
-use native.Mathlib.Omega.{arith}
-use Rattle.std.proofs.shelf.Ways.{tells}
 use Rattle.words.specs.Numbers.{number}
 use Rattle.words.proofs.numbers.read_number.Needs as need
 

@@ -1,6 +1,6 @@
 use borrow.Author.Needs.{needs}
 use Rattle.std.proofs.shelf.Lists.{take-rest}
-use Rattle.std.proofs.shelf.Tests.{lt-ltb, le-ltb}
+use Rattle.std.proofs.shelf.Tests.{lt-ltb}
 use Rattle.words.proofs.tokens.cut.Needs as need
 
 pub returns-then-i-s : need.returns-then-i-s

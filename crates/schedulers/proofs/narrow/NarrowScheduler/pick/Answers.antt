@@ -1,8 +1,7 @@
-use mathlib.Core.Path.{_≡_, refl, ap, subst, _∙_}
+use mathlib.Core.Path.{refl, ap, subst, _∙_}
 use mathlib.Core.List.{List}
 use Prim.Native.Nat.{ℕ}
 use native.Mathlib.Omega.{arith}
-use lib.ListN.{take}
 use Rattle.schedulers.specs.Schedulers.{picked}
 use Rattle.schedulers.proofs.Fronts.{picked-front, take-min}
 use Rattle.schedulers.proofs.narrow.NarrowScheduler.pick.Needs as need
