@@ -27,6 +27,7 @@ use std::alloc::AllocError;
 use std::alloc::Global;
 use working::Outcome;
 use working::work_serially;
+use written::load_card;
 
 // The sheet of a card under a kind, by serial working.
 pub fn serial_sheet<K: ValueKind>(
@@ -64,7 +65,7 @@ pub fn text_sheet(heap: Global, text: &[u8]) -> Result<Vec<u8>, AllocError>
     ensures { λ r. ⌜ made r (λ v. vec-items v ≡ Texts.text-sheet (now (text .entry))) ⌝ }
 {
     let mut slot = Slot::new(heap)?;
-    match slot.load(heap, text) {
+    match load_card(&mut slot, heap, text) {
         Ok(()) => card_sheet(heap, slot.card()),
         Err(refusal) => match refusal.told() {
             Some(t) => refused_sheet(heap, t.number, t.line, t.word),

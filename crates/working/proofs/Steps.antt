@@ -79,9 +79,11 @@ repeat-request k t l zero x b = refl
 repeat-request k t l (suc n) x b = refl
 
 module _ (k : Kind) (r r′ : Record) (w v : Work) (m m′ : List ℕ) where
-  pub answers-finished : work-of w ≡ end → m′ ≡ m → Answered k r w m Finished r′ v m′
+  pub answers-finished : work-of w ≡ end → work-of v ≡ end → v .place ≡ w .place → v .children ≡ w .children → r′ ≡ r → m′ ≡ m → Answered k r w m Finished r′ v m′
   unfolding Answered reply stored
-  answers-finished e h = (ap (reply m) (request-end k (task-of r w) e), h ∙ ap (stored k m) (sym (request-end k (task-of r w) e)))
+  answers-finished e f p c a h =
+      let same = ap (λ (y : Record). task-of y v) a ∙ sym (moved r (ranks-of (w .place)) (w .children) (work-of w) v (ap ranks-of p) c (f ∙ sym e)) in
+      (ap (reply m) (request-end k (task-of r w) e), h ∙ ap (stored k m) (sym (request-end k (task-of r w) e)), same)
 
   -- v is w after a round
   pub answers-rounds : (l n : ℕ) (x b : Block) → work-of w ≡ next l (Statement.repeat n x) b → work-of v ≡ after-rounds l n x b → v .place ≡ w .place → v .children ≡ w .children → r′ ≡ r → m′ ≡ m → Answered k r w m Went r′ v m′

@@ -26,7 +26,7 @@ unfoldable pub Answered : Kind → Record → Work → List ℕ → Stepped → 
 Answered k r w m (Fault f l) r′ w′ m′ = (reply m (request k (task-of r w)) ≡ faulted f l) × (task-of r′ w′ ≡ task-of r w) × (m′ ≡ m)
 Answered k r w m Went r′ w′ m′ = (reply m (request k (task-of r w)) ≡ stepped (goes (task-of r′ w′))) × (m′ ≡ stored k m (request k (task-of r w)))
 Answered k r w m Amended r′ w′ m′ = (reply m (request k (task-of r w)) ≡ stepped (goes (task-of r′ w′))) × (m′ ≡ stored k m (request k (task-of r w)))
-Answered k r w m Finished r′ w′ m′ = (reply m (request k (task-of r w)) ≡ stepped leaves) × (m′ ≡ stored k m (request k (task-of r w)))
+Answered k r w m Finished r′ w′ m′ = (reply m (request k (task-of r w)) ≡ stepped leaves) × (m′ ≡ stored k m (request k (task-of r w))) × (task-of r′ w′ ≡ task-of r w)
 Answered k r w m (Made u f) r′ w′ m′ = (reply m (request k (task-of r w)) ≡ stepped (makes (fresh-task u f) (task-of r′ w′))) × (m′ ≡ stored k m (request k (task-of r w)))
 
 -- a child has as many objects

@@ -5,7 +5,7 @@ use Rattle.runner.proofs.text_sheet.Needs as need
 
 pub returns-in-Ok : need.returns-in-Ok
 returns-in-Ok c =
-    made-along (c .card-sheet .result) _ _ (ap card-sheet (c .card .ensures) ∙ text-accepted _ _ (c .in-Ok .ensures tt)) (c .card-sheet .ensures)
+    made-along (c .card-sheet .result) _ _ (ap card-sheet (c .card .ensures) ∙ text-accepted _ _ (c .in-Ok .ensures tt .loads)) (c .card-sheet .ensures)
 
 pub returns-in-Some : need.returns-in-Some
-returns-in-Some c = made-along (c .refused-sheet .result) _ _ (text-refused _ _ _ _ _ (c .in-Some .ensures tt) (c .in-Err .ensures tt)) (c .refused-sheet .ensures)
+returns-in-Some c = made-along (c .refused-sheet .result) _ _ (text-refused _ _ _ _ _ (c .in-Some .ensures tt) (c .in-Err .ensures tt .loads)) (c .refused-sheet .ensures)

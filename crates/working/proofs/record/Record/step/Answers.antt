@@ -50,8 +50,9 @@ spawn-fresh-requires g c κs =
 
 pub returns-in-Nothing : need.returns-in-Nothing
 returns-in-Nothing g c =
+    let h = c .in-Nothing .ensures tt in
     record {
-      answer = answers-finished _ _ _ _ _ _ _ (c .in-Nothing .ensures tt .heads .0) refl;
+      answer = answers-finished _ _ _ _ _ _ _ (h .heads .0) (h .heads .1) (h .stays .0) (h .stays .1) refl refl;
       objects = refl;
       kept = refl;
       sized = tt;

@@ -1,0 +1,4 @@
+pub mod Backs
+pub mod Numbered
+pub mod Rooms
+pub mod Arms

@@ -1,0 +1,4 @@
+pub mod Rooms
+pub mod Views
+pub mod Moves
+pub mod Steps

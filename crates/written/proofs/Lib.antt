@@ -1,0 +1,12 @@
+pub mod Numbers
+pub mod Cuts
+pub mod Lines
+pub mod Sections
+pub mod Headers
+pub mod Accepted
+pub mod Written
+pub mod Loads
+pub mod Offences
+pub mod FirstWords
+pub mod FirstLines
+pub mod FirstFaults

@@ -1,0 +1,5 @@
+pub mod Written
+pub mod Formed
+pub mod Offences
+pub mod First
+pub mod Laws
