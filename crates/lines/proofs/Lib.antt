@@ -1,0 +1,16 @@
+pub mod Aheads
+pub mod Numbers
+pub mod Passes
+pub mod Stores
+pub mod Rounds
+pub mod Sames
+pub mod Entries
+pub mod Declareds
+pub mod Queued
+pub mod Members
+pub mod Unfinished
+pub mod Readies
+pub mod Holds
+pub mod Clearer
+pub mod Standing
+pub mod Looks
