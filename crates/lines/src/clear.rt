@@ -44,14 +44,14 @@ pub(crate) fn declares(d: Declared) -> bool
 fn passes_read(d: Declared) -> bool
     ensures { λ r. ⌜ r ≡ Ready.passes Rd d ⌝ }
 {
-    !held(d.writes) && !held(d.commutes)
+    !(held(d.writes) | held(d.commutes))
 }
 
 // Whether it leaves a later commute clear.
 fn passes_commute(d: Declared) -> bool
     ensures { λ r. ⌜ r ≡ Ready.passes Cm d ⌝ }
 {
-    !held(d.reads) && !held(d.writes)
+    !(held(d.reads) | held(d.writes))
 }
 
 impl Clear {
@@ -71,9 +71,9 @@ impl Clear {
         ensures { λ r. ⌜ r ≡ Clears.past self d ⌝ }
     {
         Clear {
-            reads: self.reads && passes_read(d),
+            reads: self.reads & passes_read(d),
             writes: false,
-            commutes: self.commutes && passes_commute(d),
+            commutes: self.commutes & passes_commute(d),
         }
     }
 
