@@ -3,7 +3,8 @@ use mathlib.Core.Bool.{Bool, true, not, _&&_}
 use mathlib.Core.List.{List, [], _∷_}
 use lib.IntN.{ℤ, pos, negℤ}
 use lib.Signed.{ltZ}
-use Rattle.cards.specs.Code.{Block, end, next, Statement}
+use mathlib.Core.Path.{_≡_}
+use Rattle.cards.specs.Code.{Block, end, next, Statement, Card}
 
 -- from -32768 to 32767
 abbrev pub is-literal : ℤ → Bool
@@ -31,3 +32,8 @@ unfoldable mutual
   statement-literals (Statement.repeat c x) = block-literals x
   statement-literals (Statement.task ds x) = block-literals x
   statement-literals (Statement.with ds) = true
+
+-- every number of a card is a literal
+pub record Literals (c : Card) : Type 0 where
+  pub words : all-literals (c .words) ≡ true
+  pub body : block-literals (c .body) ≡ true

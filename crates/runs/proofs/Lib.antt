@@ -1,5 +1,6 @@
 pub mod Requests
 pub mod Pairs
+pub mod Literals
 pub mod Words
 pub mod Apart
 pub mod Diamond

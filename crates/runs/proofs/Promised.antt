@@ -12,7 +12,7 @@ use Rattle.kinds.specs.Kinds.{Kind, Lawful}
 use Rattle.cards.specs.Code.{Card}
 use Rattle.working.specs.Serial.{Result, Serially}
 use Rattle.sheets.specs.Sheets.{sheet-of}
-use Rattle.runs.specs.Literals.{Literals}
+use Rattle.cards.specs.Literals.{Literals}
 use Rattle.runs.specs.Lines.{waiting, out, is-out, Member, any-out}
 use Rattle.runs.specs.Benches.{Bench, bench, opened, offer, settled}
 use Rattle.runs.specs.Steps.{replied, put, shut}

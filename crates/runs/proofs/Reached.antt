@@ -16,7 +16,7 @@ use Rattle.working.specs.Tasks.{Task, main}
 use Rattle.working.specs.Requests.{request, Reply, faulted, stepped, reply}
 use Rattle.working.specs.Serial.{Outcome, words, fault, Result, result, Serial, done, stop, more, Serially}
 use Rattle.sheets.specs.Sheets.{outcome-sheet, result-sheet, sheet-of}
-use Rattle.runs.specs.Literals.{Literals}
+use Rattle.cards.specs.Literals.{Literals}
 use Rattle.runs.specs.Lines.{Status, waiting, out, stuck, is-out, is-stuck, Member, member, with-status, find, any-out}
 use Rattle.runs.specs.Ready.{ready, on-offer, offered}
 use Rattle.runs.specs.Benches.{Bench, bench, opened, settled-line, settled, stuck-outcome, line-outcome, outcome}

@@ -9,7 +9,7 @@ use Rattle.std.proofs.shelf.Signed.{ints}
 use lib.ListN.{getD, replicate}
 use Rattle.std.specs.shelf.Lists.{All}
 use Rattle.std.proofs.shelf.Tests.{cond-both}
-use Rattle.std.proofs.shelf.Elements.{all-set, all-map, all-weaker, all-from-getD}
+use Rattle.std.proofs.shelf.Elements.{all-set, all-map, all-weaker}
 use Rattle.kinds.specs.Kinds.{IsWord, IsLiteral, Kind, Lawful}
 use Rattle.cards.specs.declared.lines.Access.{Access}
 use Rattle.cards.specs.declared.lines.Access.the-variants.{Rd, Wr, Cm}
@@ -18,7 +18,8 @@ use Rattle.working.specs.declared.fault.FaultKind.{FaultKind}
 use Rattle.working.specs.Tasks.{is-immediate, level, Task, main, starting-words}
 use Rattle.working.specs.Requests.{Next, Request, fault, quiet, read, write, join, changed, continued, with-word, with-pointer, word, Section, refused, accepted, child, maker, after-with, after-task, under, statement-request, block-request, request, stored, stepped, reply}
 use Rattle.working.specs.Serial.{segment}
-use Rattle.runs.specs.Literals.{Block-literals, Statement-literals, Literals}
+use Rattle.cards.specs.Literals.{Literals}
+use Rattle.runs.proofs.Literals.{Block-literals, Statement-literals, literals-are, block-literals-are}
 use Rattle.runs.proofs.Pairs.{all-update, all-at}
 
 -- a task holds words, and literals in what it has to do
@@ -130,6 +131,6 @@ module _ (k : Kind) (law : Lawful k) where
   pub words-opened : (c : Card) → Literals c → Whole-words (starting-words k c) (main k c ∷ [])
   unfolding starting-words main
   words-opened c h = record {
-    store = all-map IsWord (k .literal) (c .words) (all-weaker IsLiteral (λ z. IsWord (k .literal z)) (law .literal-word) (c .words) (all-from-getD IsLiteral (c .words) (pos 0) (h .words)));
-    tasks = (record { words = words-replicate 4 _ (law .literal-word (pos 0) zero-literal); work = h .body }, tt);
+    store = all-map IsWord (k .literal) (c .words) (all-weaker IsLiteral (λ z. IsWord (k .literal z)) (law .literal-word) (c .words) (literals-are (c .words) (h .words)));
+    tasks = (record { words = words-replicate 4 _ (law .literal-word (pos 0) zero-literal); work = block-literals-are (c .body) (h .body) }, tt);
   }

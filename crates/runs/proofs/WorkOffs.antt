@@ -10,7 +10,7 @@ use Rattle.std.proofs.shelf.Tests.{not-true, not-from-false, and-parts, and-fro
 use Rattle.kinds.specs.Kinds.{Kind, Lawful}
 use Rattle.cards.specs.Code.{Card}
 use Rattle.working.specs.Serial.{Result}
-use Rattle.runs.specs.Literals.{Literals}
+use Rattle.cards.specs.Literals.{Literals}
 use Rattle.runs.specs.Lines.{any-out}
 use Rattle.runs.specs.Benches.{Bench, offer, settled}
 use Rattle.runs.specs.Events.{took, performed, effect}

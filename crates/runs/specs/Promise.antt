@@ -11,7 +11,7 @@ use Rattle.cards.specs.Code.{Card}
 use Rattle.cards.specs.Bounds.{card-steps, card-tasks}
 use Rattle.working.specs.Serial.{Outcome, words, fault, Result, serially, Serially}
 use Rattle.sheets.specs.Sheets.{sheet-of}
-use Rattle.runs.specs.Literals.{Literals}
+use Rattle.cards.specs.Literals.{Literals}
 use Rattle.runs.specs.Lines.{waiting, out, Member, any-out}
 use Rattle.runs.specs.Ready.{ready}
 use Rattle.runs.specs.Benches.{Bench, opened, offer, settled, outcome}
