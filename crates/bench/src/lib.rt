@@ -1,4 +1,6 @@
 // The bench.
+#![tactic(auto)]
+
 mod advance;
 mod answers;
 mod bench;

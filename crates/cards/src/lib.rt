@@ -2,6 +2,8 @@
 //
 // `Card` holds a kind's name, an order's name, the starting words and main's block, and no card breaks a limit:
 // `Card::new` answers the first limit that one would break. `Block` and `Statement` are the code as a tree.
+#![tactic(auto)]
+
 mod card;
 mod extent;
 mod lines;

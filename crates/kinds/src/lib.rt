@@ -3,6 +3,8 @@
 // `ValueKind` is the interface. An implementer gives the meaning of five functions, `kind`, and shows
 // that it is lawful: joins of words may be exchanged, and different words have different numbers.
 // `Tally` is two's complement, `Flags` a set of 32 bits.
+#![tactic(auto)]
+
 ghost use Rattle.std.specs.Prelude.{◌≡◌};
 ghost use Rattle.kinds.specs.Kinds.{Kind, Lawful};
 

@@ -5,6 +5,8 @@
 // `is_settled` how the tasks stand. `take` and `hand_back` move a turn. What a performed step came to is told by one
 // of `wait`, `redeclare`, `enter`, `finish` and `stick`.
 // `decide` says what an `Event` comes to in a task's `State`: a `Deed`.
+#![tactic(auto)]
+
 mod changes;
 mod clear;
 mod line;

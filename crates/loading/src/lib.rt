@@ -2,6 +2,8 @@
 //
 // `Slot` holds a card, always one within its limits; `Slot::load` reads a text into it. `LoadRefusal` is a word's
 // fault inside a line's fault inside the refusal, and `Told` its number, line and word.
+#![tactic(auto)]
+
 mod blocks;
 mod cursor;
 mod header;

@@ -2,6 +2,8 @@
 //
 // `insert_before` and `remove_at` put an element in before a place of a slice and take one out at a place.
 // `insert` and `remove` do the same to a Vec, which grows or shrinks by one, and need no memory.
+#![tactic(auto)]
+
 ghost use Rattle.std.specs.Prelude.{◌≡◌, ◌-◌, ◌<◌, ◌≤◌, ◌++◌, length, take, drop, vec_len, vec_capacity};
 ghost use Rattle.std.specs.List.{insert, remove};
 

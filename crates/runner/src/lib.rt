@@ -3,6 +3,8 @@
 // `text_sheet` reads a text, works its card off on a bench under the order that it names, and writes the sheet,
 // whatever the text is. `bench_sheet` does the same for a card that is loaded, under any kind and any scheduler, and
 // `serial_sheet` works a card from top to bottom.
+#![tactic(auto)]
+
 ghost use Rattle.std.specs.Prelude.{◌≡◌, IfOk};
 ghost use Rattle.cards.specs.Cards.{card_of};
 ghost use Rattle.sheets.specs.Sheets.{sheet_of};

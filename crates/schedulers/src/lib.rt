@@ -4,6 +4,8 @@
 // `First` and `Last` choose the ends of the list, `Turns` goes round the task numbers, and
 // `Narrow` shows another scheduler only the front of the list.
 // `CardOrder` is whichever of these a card names.
+#![tactic(auto)]
+
 mod card_order;
 mod ends;
 mod narrow;

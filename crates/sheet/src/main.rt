@@ -1,4 +1,6 @@
 // Reads a card from standard input and writes its sheet.
+#![tactic(auto)]
+
 use runner::text_sheet;
 use std::io;
 use std::io::{Read, Write};

@@ -4,6 +4,8 @@
 // work a fault ended, and `refused_sheet` that of a card that was not taken. Each makes a vector of
 // its own, and fails only for want of memory. `append_run` and `append_fault` write behind what
 // stands in a vector of the caller's; `LONGEST` bytes are room for what they write.
+#![tactic(auto)]
+
 ghost use Rattle.std.specs.Prelude.{◌≡◌, ◌≤◌, length, IfOk};
 ghost use Rattle.sheets.specs.Appends.{Appends};
 ghost use Rattle.sheets.specs.Sheets.{fault_name, fault_sheet, refused_sheet, run_sheet};

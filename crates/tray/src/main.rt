@@ -1,4 +1,6 @@
 // Writes the name and the sheet of each card that it is given.
+#![tactic(auto)]
+
 use runner::text_sheet;
 use std::io::Write;
 use std::{env, fs, io};

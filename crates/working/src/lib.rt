@@ -4,6 +4,8 @@
 // A child comes as a `Record` and a `Fresh`, which `Work::begin` turns into work with room from `Frames::new`.
 // `Record::main`, `Fresh::main` and `starting_words` are where a card begins.
 // `work_serially` works a whole card, each child as soon as it is made, and answers a `Worked`.
+#![tactic(auto)]
+
 mod declarations;
 mod declared;
 mod effect;

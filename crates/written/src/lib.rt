@@ -1,4 +1,6 @@
 // A text and its card determine each other.
+#![tactic(auto)]
+
 ghost use Rattle.loading.specs.Loading.{Loads};
 ghost use Rattle.written.specs.Laws.{Answers, Laws};
 
