@@ -6,62 +6,62 @@ use Rattle.cards.specs.Literals.{block_literals, statement_literals}
 use Rattle.cards.proofs.Capped.{capped_rounds}
 use Rattle.cards.proofs.measure.+block_extent_statement_extent.Goals as goal
 
-pub block-extent-returns-in-End : goal.block-extent-returns-in-End
+pub block_extent-returns-in-End : goal.block_extent-returns-in-End
 unfolding step_bound task_bound depth line_count object_bound block_literals
-block-extent-returns-in-End t c = search rules
+block_extent-returns-in-End t c = search rules
 
-pub block-extent-returns-in-Then : goal.block-extent-returns-in-Then
+pub block_extent-returns-in-Then : goal.block_extent-returns-in-Then
 unfolding step_bound task_bound depth line_count object_bound block_literals
-block-extent-returns-in-Then t c = search rules
+block_extent-returns-in-Then t c = search rules
 
-pub statement-extent-returns-in-Set : goal.statement-extent-returns-in-Set
+pub statement_extent-returns-in-Set : goal.statement_extent-returns-in-Set
 unfolding statement_steps statement_tasks statement_depth statement_lines statement_objects statement_literals
-statement-extent-returns-in-Set t c = search rules
+statement_extent-returns-in-Set t c = search rules
 
-pub statement-extent-returns-in-Add : goal.statement-extent-returns-in-Add
+pub statement_extent-returns-in-Add : goal.statement_extent-returns-in-Add
 unfolding statement_steps statement_tasks statement_depth statement_lines statement_objects statement_literals
-statement-extent-returns-in-Add t c = search rules
+statement_extent-returns-in-Add t c = search rules
 
-pub statement-extent-returns-in-Point : goal.statement-extent-returns-in-Point
+pub statement_extent-returns-in-Point : goal.statement_extent-returns-in-Point
 unfolding statement_steps statement_tasks statement_depth statement_lines statement_objects statement_literals
-statement-extent-returns-in-Point t c = search rules
+statement_extent-returns-in-Point t c = search rules
 
-pub statement-extent-returns-in-Alias : goal.statement-extent-returns-in-Alias
+pub statement_extent-returns-in-Alias : goal.statement_extent-returns-in-Alias
 unfolding statement_steps statement_tasks statement_depth statement_lines statement_objects statement_literals
-statement-extent-returns-in-Alias t c = search rules
+statement_extent-returns-in-Alias t c = search rules
 
-pub statement-extent-returns-in-Read : goal.statement-extent-returns-in-Read
+pub statement_extent-returns-in-Read : goal.statement_extent-returns-in-Read
 unfolding statement_steps statement_tasks statement_depth statement_lines statement_objects statement_literals
-statement-extent-returns-in-Read t c = search rules
+statement_extent-returns-in-Read t c = search rules
 
-pub statement-extent-returns-in-Write : goal.statement-extent-returns-in-Write
+pub statement_extent-returns-in-Write : goal.statement_extent-returns-in-Write
 unfolding statement_steps statement_tasks statement_depth statement_lines statement_objects statement_literals
-statement-extent-returns-in-Write t c = search rules
+statement_extent-returns-in-Write t c = search rules
 
-pub statement-extent-returns-in-Join : goal.statement-extent-returns-in-Join
+pub statement_extent-returns-in-Join : goal.statement_extent-returns-in-Join
 unfolding statement_steps statement_tasks statement_depth statement_lines statement_objects statement_literals
-statement-extent-returns-in-Join t c = search rules
+statement_extent-returns-in-Join t c = search rules
 
-pub statement-extent-returns-in-If : goal.statement-extent-returns-in-If
+pub statement_extent-returns-in-If : goal.statement_extent-returns-in-If
 unfolding statement_steps statement_tasks statement_depth statement_lines statement_objects statement_literals
-statement-extent-returns-in-If t c = search rules
+statement_extent-returns-in-If t c = search rules
 
-pub statement-extent-returns-in-IfElse : goal.statement-extent-returns-in-IfElse
+pub statement_extent-returns-in-IfElse : goal.statement_extent-returns-in-IfElse
 unfolding statement_steps statement_tasks statement_depth statement_lines statement_objects statement_literals
-statement-extent-returns-in-IfElse t c = search rules
+statement_extent-returns-in-IfElse t c = search rules
 
-pub statement-extent-returns-in-Task : goal.statement-extent-returns-in-Task
+pub statement_extent-returns-in-Task : goal.statement_extent-returns-in-Task
 unfolding statement_steps statement_tasks statement_depth statement_lines statement_objects statement_literals
-statement-extent-returns-in-Task t c = search rules
+statement_extent-returns-in-Task t c = search rules
 
-pub statement-extent-returns-in-With : goal.statement-extent-returns-in-With
+pub statement_extent-returns-in-With : goal.statement_extent-returns-in-With
 unfolding statement_steps statement_tasks statement_depth statement_lines statement_objects statement_literals
-statement-extent-returns-in-With t c = search rules
+statement_extent-returns-in-With t c = search rules
 
-pub statement-extent-returns-in-Repeat : goal.statement-extent-returns-in-Repeat
+pub statement_extent-returns-in-Repeat : goal.statement_extent-returns-in-Repeat
 unfolding statement_steps statement_tasks statement_depth statement_lines statement_objects statement_literals
-statement-extent-returns-in-Repeat t c =
+statement_extent-returns-in-Repeat t c =
     let b = block_of c.in-Repeat.body in
-    let s = capped_rounds c.in-Repeat.count (1 + c.block-extent-in-Repeat.result.steps) (1 + step_bound b) 1_000_001 (omega arith) in
-    let n = capped_rounds c.in-Repeat.count c.block-extent-in-Repeat.result.tasks (task_bound b) 65 (omega arith) in
+    let s = capped_rounds c.in-Repeat.count (1 + c.block_extent-in-Repeat.result.steps) (1 + step_bound b) 1_000_001 (omega arith) in
+    let n = capped_rounds c.in-Repeat.count c.block_extent-in-Repeat.result.tasks (task_bound b) 65 (omega arith) in
     search rules

@@ -15,23 +15,23 @@ next k ws i z h f e = ap (numbers k) (drop_more ws i 0 h) ∙ ap (λ x. signed_d
 pub loop-word-init : goal.loop-word-init
 loop-word-init g c = begin _ _
 
-pub returns-in-err-signed : goal.returns-in-err-signed
-returns-in-err-signed g c =
+pub returns-in_err-signed : goal.returns-in_err-signed
+returns-in_err-signed g c =
     finish c.loop-word.invariant
     (stopped _ (next (g.K.ValueKind.kind c.args.kind.now) c.args.words.now c.loop-word.word-index c.number.result c.loop-word-test.true (search rules) c.number.ensures)
-    c.from-residual.ensures.0 c.in-err-signed.ensures)
+    c.from_residual.ensures.0 c.in_err-signed.ensures)
 
-pub returns-in-err-text : goal.returns-in-err-text
-returns-in-err-text g c =
+pub returns-in_err-text : goal.returns-in_err-text
+returns-in_err-text g c =
     finish c.loop-word.invariant
     (then (next (g.K.ValueKind.kind c.args.kind.now) c.args.words.now c.loop-word.word-index c.number.result c.loop-word-test.true (search rules) c.number.ensures)
-    c.in-ok-signed.ensures (stopped _ refl c.from-residual-in-err-text.ensures.0 c.in-err-text.ensures))
+    c.in_ok-signed.ensures (stopped _ refl c.from_residual-in_err-text.ensures.0 c.in_err-text.ensures))
 
 pub loop-word-preserved : goal.loop-word-preserved
 loop-word-preserved g c =
     onward _ refl
-    (onward _ (next (g.K.ValueKind.kind c.args.kind.now) c.args.words.now c.loop-word.word-index c.number.result c.loop-word-test.true (search rules) c.number.ensures) c.loop-word.invariant c.in-ok-signed.ensures)
-    c.in-ok-text.ensures
+    (onward _ (next (g.K.ValueKind.kind c.args.kind.now) c.args.words.now c.loop-word.word-index c.number.result c.loop-word-test.true (search rules) c.number.ensures) c.loop-word.invariant c.in_ok-signed.ensures)
+    c.in_ok-text.ensures
 
 pub returns : goal.returns
 returns g c = finish c.loop-word.invariant (whole_is (ap (numbers (g.K.ValueKind.kind c.args.kind.now)) (drop_all _ c.args.words.now c.loop-word-test.false)) (nothing _))

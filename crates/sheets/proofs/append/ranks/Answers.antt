@@ -12,22 +12,22 @@ next ns i n h e = ap ranks_text (drop_more ns i 0 h) ∙ ap (λ x. 46 ∷ (decim
 pub loop-rank-init : goal.loop-rank-init
 loop-rank-init c = begin _ _
 
-pub returns-in-err-text : goal.returns-in-err-text
-returns-in-err-text c =
+pub returns-in_err-text : goal.returns-in_err-text
+returns-in_err-text c =
     finish c.loop-rank.invariant
-    (stopped _ (next c.args.place.now c.loop-rank.rank-index _ c.loop-rank-test.true refl) c.from-residual.ensures.0 c.in-err-text.ensures)
+    (stopped _ (next c.args.place.now c.loop-rank.rank-index _ c.loop-rank-test.true refl) c.from_residual.ensures.0 c.in_err-text.ensures)
 
-pub returns-in-err-decimal : goal.returns-in-err-decimal
-returns-in-err-decimal c =
+pub returns-in_err-decimal : goal.returns-in_err-decimal
+returns-in_err-decimal c =
     finish c.loop-rank.invariant
-    (then (next c.args.place.now c.loop-rank.rank-index c.from.result c.loop-rank-test.true c.from.ensures) c.in-ok-text.ensures
-    (stopped _ refl c.from-residual-in-err-decimal.ensures.0 c.in-err-decimal.ensures))
+    (then (next c.args.place.now c.loop-rank.rank-index c.from.result c.loop-rank-test.true c.from.ensures) c.in_ok-text.ensures
+    (stopped _ refl c.from_residual-in_err-decimal.ensures.0 c.in_err-decimal.ensures))
 
 pub loop-rank-preserved : goal.loop-rank-preserved
 loop-rank-preserved c =
     onward _ refl
-    (onward _ (next c.args.place.now c.loop-rank.rank-index c.from.result c.loop-rank-test.true c.from.ensures) c.loop-rank.invariant c.in-ok-text.ensures)
-    c.in-ok-decimal.ensures
+    (onward _ (next c.args.place.now c.loop-rank.rank-index c.from.result c.loop-rank-test.true c.from.ensures) c.loop-rank.invariant c.in_ok-text.ensures)
+    c.in_ok-decimal.ensures
 
 pub returns : goal.returns
 returns c = finish c.loop-rank.invariant (whole_is (ap ranks_text (drop_all _ c.args.place.now c.loop-rank-test.false)) (nothing _))

@@ -10,6 +10,6 @@ pub returns-in-48 : goal.returns-in-48
 unfolding number
 returns-in-48 c = search rules
 
-pub returns-in-default : goal.returns-in-default
+pub returns-in_default : goal.returns-in_default
 unfolding number
-returns-in-default c = search rules
+returns-in_default c = search rules

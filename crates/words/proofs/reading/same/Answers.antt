@@ -5,4 +5,4 @@ use Rattle.words.proofs.reading.same.Goals as goal
 
 pub returns : goal.returns
 unfolding is_word
-returns c = same_from_decides _ _ (slice_eq-Decides Decides-eqb _ _ _ c.eq.ensures) (bytes_eq-Decides _ _)
+returns c = same_from_decides _ _ (slice_eq-Decides Decides-eqb c.args.a.now c.args.b.now _ c.eq.ensures) (bytes_eq-Decides c.args.a.now c.args.b.now)

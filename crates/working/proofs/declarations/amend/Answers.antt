@@ -10,12 +10,12 @@ returns-in-Absent c =
     sym c.loop-x.invariant ∙ amend_stops c.args.pointers.now c.args.lines.now c.loop-x.x-index _ no_declaration c.loop-x-test.true refl c.loop-x.ds (ap held (sym c.level.ensures ∙ c.in-Absent.is))
 
 pub assign-requires : goal.assign-requires
-assign-requires c = held_inside c.loop-x.ds _ _ (held_unless _ (λ e. c.in-default.not-Absent (c.level.ensures ∙ e)))
+assign-requires c = held_inside c.loop-x.ds _ _ (held_unless _ (λ e. c.in_default.not-Absent (c.level.ensures ∙ e)))
 
 pub loop-x-preserved : goal.loop-x-preserved
 loop-x-preserved c =
     rw c.assign.ensures
-    (amend_goes c.args.pointers.now c.args.lines.now c.loop-x.x-index _ no_declaration c.loop-x-test.true refl c.loop-x.ds (held_unless _ (λ e. c.in-default.not-Absent (c.level.ensures ∙ e))) ∙ c.loop-x.invariant)
+    (amend_goes c.args.pointers.now c.args.lines.now c.loop-x.x-index _ no_declaration c.loop-x-test.true refl c.loop-x.ds (held_unless _ (λ e. c.in_default.not-Absent (c.level.ensures ∙ e))) ∙ c.loop-x.invariant)
 
 pub returns : goal.returns
 returns c = sym c.loop-x.invariant ∙ ap (amended c.args.pointers.now c.loop-x.ds) (drop_of_length-le c.args.lines.now c.loop-x-test.false)

@@ -10,12 +10,12 @@ returns-in-Absent c =
     sym c.loop-x.invariant ∙ endow_stops c.args.pointers.now c.args.lines.now c.loop-x.x-index _ no_declaration c.loop-x-test.true refl c.args.maker.now c.loop-x.ds (ap held (sym c.level.ensures ∙ c.in-Absent.is))
 
 pub assign-requires : goal.assign-requires
-assign-requires c = let h = held_inside c.args.maker.now _ _ (held_unless _ (λ e. c.in-default.not-Absent (c.level.ensures ∙ e))) in omega (arith, h, c.requires.same, c.loop-x.auto.ds)
+assign-requires c = let h = held_inside c.args.maker.now _ _ (held_unless _ (λ e. c.in_default.not-Absent (c.level.ensures ∙ e))) in omega (arith, h, c.requires.same, c.loop-x.auto.ds)
 
 pub loop-x-preserved : goal.loop-x-preserved
 loop-x-preserved c =
     rw c.assign.ensures
-    (endow_goes c.args.pointers.now c.args.lines.now c.loop-x.x-index _ no_declaration c.loop-x-test.true refl c.args.maker.now c.loop-x.ds (held_unless _ (λ e. c.in-default.not-Absent (c.level.ensures ∙ e))) ∙ c.loop-x.invariant)
+    (endow_goes c.args.pointers.now c.args.lines.now c.loop-x.x-index _ no_declaration c.loop-x-test.true refl c.args.maker.now c.loop-x.ds (held_unless _ (λ e. c.in_default.not-Absent (c.level.ensures ∙ e))) ∙ c.loop-x.invariant)
 
 pub returns : goal.returns
 returns c = sym c.loop-x.invariant ∙ ap (endowed c.args.pointers.now c.args.maker.now c.loop-x.ds) (drop_of_length-le c.args.lines.now c.loop-x-test.false) ∙ endowed_none _ _ _

@@ -45,10 +45,10 @@ loop-fault-preserved-in-Amended g c =
     let o = c.in-Amended.ensures in
     working_more i (amended _ _ _ _ _ _ _ _ o.answer) (omega arith) (omega (arith, i.objects, o.objects)) i.small
 
-pub returns-in-default : goal.returns-in-default
-returns-in-default g c =
+pub returns-in_default : goal.returns-in_default
+returns-in_default g c =
     let l = c.loop-fault in
-    let e = nil_from_length l.pile.items (sym l.pile.ok.0 ∙ c.in-default.ensures.cases.0) in
+    let e = nil_from_length l.pile.items (sym l.pile.ok.0 ∙ c.in_default.ensures.cases.0) in
     l.invariant.carries _ (all_finished _ _ _ _ _ _ _ _ e l.steps l.made c.in-Finished.ensures.answer)
 
 pub loop-fault-smaller-in-Finished : goal.loop-fault-smaller-in-Finished
@@ -65,14 +65,14 @@ loop-fault-preserved-in-Finished g c =
     working_more i (finished _ _ _ _ _ _ _ _ ts t p c.in-Finished.ensures.answer) (omega arith) z.1 z.0
 
 -- the child goes on
-child_advances : (g : given.Over) (c : goal.In-ok-push g) → Advances (g.K.ValueKind.kind c.args.kind.now) c.loop-fault.store (line_of c.loop-fault.own c.loop-fault.work c.loop-fault.pile.items) c.step.new.store (line_of c.in-Made.child c.replace-maker.new.dest c.push.new.self.items) (makes (fresh_task c.in-Made.child c.in-Made.fresh) (task_of c.step.new.self c.step.new.work))
+child_advances : (g : given.Over) (c : goal.In_ok-push-in-Made g) → Advances (g.K.ValueKind.kind c.args.kind.now) c.loop-fault.store (line_of c.loop-fault.own c.loop-fault.work c.loop-fault.pile.items) c.step.new.store (line_of c.in-Made.child c.replace-maker.new.dest c.push.new.self.items) (makes (fresh_task c.in-Made.child c.in-Made.fresh) (task_of c.step.new.self c.step.new.work))
 child_advances g c =
     let b = c.begin.ensures in
     let e = c.replace-maker.ensures.after in
     let t : Task = record { own = c.step.new.self; work = c.replace-maker.result } in
     made _ _ _ _ _ _ _ _ c.in-Made.child c.in-Made.fresh c.replace-maker.new.dest c.push.new.self.items t c.in-Made.ensures.answer
     (task_of_begun c.in-Made.child c.in-Made.fresh c.replace-maker.new.dest (ap work_of e ∙ b.work) (ap (λ (w : Work). w.place) e ∙ b.place) (ap (λ (w : Work). w.children) e ∙ b.children))
-    (pushed (t ∷ []) refl c.in-ok-push.was c.push.ensures.items)
+    (pushed (t ∷ []) refl c.in_ok-push-in-Made.was c.push.ensures.items)
     (ap (task_of c.step.new.self) c.replace-maker.ensures.value)
 
 pub loop-fault-smaller : goal.loop-fault-smaller
@@ -84,5 +84,5 @@ loop-fault-preserved g c =
     let i = c.loop-fault.invariant in
     let o = c.in-Made.ensures in
     let t : Task = record { own = c.step.new.self; work = c.replace-maker.result } in
-    let e = pushed (t ∷ []) refl c.in-ok-push.was c.push.ensures.items in
+    let e = pushed (t ∷ []) refl c.in_ok-push-in-Made.was c.push.ensures.items in
     working_more i (child_advances g c) refl (omega (arith, i.objects, o.sized)) (subst (Small _) (sym e) (small_last _ c.loop-fault.pile.items t i.small (omega (arith, i.objects, o.objects))))

@@ -10,7 +10,7 @@ loop-w-preserved g c =
     let ws = c.words-words.result.now in
     let i = c.loop-w.w-index in
     let e : c.literal.result ≡ f (get_or ws i (pos 0)) = search rules in
-    pushed (c.literal.result ∷ []) c.loop-w.invariant c.in-ok-push.was c.push.ensures.items
+    pushed (c.literal.result ∷ []) c.loop-w.invariant c.in_ok-push.was c.push.ensures.items
     ∙ ap (λ (x : ℕ). map f (take i ws) ++ x ∷ []) e
     ∙ sym (ap (map f) (take_more ws i (pos 0) c.loop-w-test.true) ∙ map-append f (take i ws) (get_or ws i (pos 0) ∷ []))
 

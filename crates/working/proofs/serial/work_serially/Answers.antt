@@ -22,11 +22,11 @@ worked k c w s =
     let b = serially_bounded k c (result_of w) s in
     record { value = (serially_agrees k c (result_of w)).1 s; related = s; steps = b.0; made = b.1 }
 
-pub work-off-requires : goal.work-off-requires
+pub work_off-requires : goal.work_off-requires
 unfolding starting_words
-work-off-requires g c =
+work_off-requires g c =
     let d = c.args.card.now in
-    let m = c.deref-mut.ensures.value ∙ c.in-ok-store.ensures in
+    let m = c.deref_mut.ensures.value ∙ c.in_ok-store.ensures in
     let h = ap step_bound (c.begin-work.ensures.work ∙ c.main.ensures.body) in
     record {
       objects = omega (arith, ap length m, length-map d.words.items (g.K.ValueKind.kind c.args.kind.now).literal, c.main-own.ensures.objects);
@@ -37,18 +37,18 @@ pub returns : goal.returns
 returns g c =
     let k : Kind = g.K.ValueKind.kind c.args.kind.now in
     let card = card_of c.args.card.now in
-    let ran = c.in-ok-ran.ran in
-    let last = c.work-off.new.store in
+    let ran = c.in_ok-ran.ran in
+    let last = c.work_off.new.store in
     let b = c.begin-work.ensures in
     let f = c.main.ensures in
-    let m = c.deref-mut.ensures.value ∙ c.in-ok-store.ensures in
+    let m = c.deref_mut.ensures.value ∙ c.in_ok-store.ensures in
     let t = task_of_main k card c.main-own.result c.begin-work.result c.main-own.ensures (b.work ∙ f.body) (ap ranks_of b.place ∙ f.place) b.children in
-    let e : length last ≡ c.in-ok-store.store.len = search rules in
+    let e : length last ≡ c.in_ok-store.store.len = search rules in
     let same : stop_of ran.stop last ≡ outcome_of c.match-ran.outcome =
     elim c.match-ran.branch [
-      | in-Done w ↦ ap (λ (s : Stop). stop_of s last) w.in-Done.is ∙ ap words (sym (take_at last _ c.in-ok-store.store.len e)) ∙ ap outcome_of (sym w.outcome-is)
+      | in-Done w ↦ ap (λ (s : Stop). stop_of s last) w.in-Done.is ∙ ap words (sym (take_at last _ c.in_ok-store.store.len e)) ∙ ap outcome_of (sym w.outcome-is)
       | in-Fault w ↦ ap (λ (s : Stop). stop_of s last) w.in-Fault.is ∙ ap outcome_of (sym w.outcome-is)
     ] in
-    let s = subst (λ (x : List ℕ). Serial k x (task_of c.main-own.result c.begin-work.result ∷ []) 0 1 (ran_of ran last)) m c.in-ok-ran.ensures in
+    let s = subst (λ (x : List ℕ). Serial k x (task_of c.main-own.result c.begin-work.result ∷ []) 0 1 (ran_of ran last)) m c.in_ok-ran.ensures in
     let r = subst (λ (x : Task). Serial k (starting_words k card) (x ∷ []) 0 1 (ran_of ran last)) t s in
     worked k card _ (subst (λ (o : Outcome). Serially k card (result o ran.steps ran.made)) same r)

@@ -3,6 +3,6 @@ use Rattle.cards.specs.Bounds.{step_bound, task_bound, depth, line_count, object
 use Rattle.cards.specs.Literals.{all_literals, block_literals}
 use Rattle.cards.proofs.card.Card.blank.Goals as goal
 
-pub invariant-of-result : goal.invariant-of-result
+pub invariant_of-result : goal.invariant_of-result
 unfolding step_bound task_bound depth line_count object_bound all_literals block_literals
-invariant-of-result c = search rules
+invariant_of-result c = search rules

@@ -6,11 +6,14 @@ use Rattle.working.specs.Records.{declared_of}
 use Rattle.working.proofs.Sections.{length_filled}
 use Rattle.working.proofs.record.Record.amend.Goals as goal
 
-pub invariant-of-self : goal.invariant-of-self
-invariant-of-self c =
+pub invariant_of-self : goal.invariant_of-self
+invariant_of-self c =
     let w = c.args.self.now in
     let k : length c.amend.new.ds ≡ w.objects = search rules in
-    (w.few, (length_filled c.amend.new.ds w.declared w.objects k w.few w.wide, tt))
+    record {
+      few = w.few;
+      wide = length_filled c.amend.new.ds w.declared w.objects k w.few w.wide;
+    }
 
 pub returns-in-None : goal.returns-in-None
 returns-in-None c =

@@ -28,5 +28,5 @@ returns-in-None c =
       refl,
     )
 
-pub invariant-of-result : goal.invariant-of-result
-invariant-of-result c = let k : length c.endow.new.ds ≡ c.args.self.now.objects = search rules in (c.args.self.now.few, (length_filled c.endow.new.ds (replicate 16 nothing) c.args.self.now.objects k c.args.self.now.few refl, tt))
+pub invariant_of-result : goal.invariant_of-result
+invariant_of-result c = let k : length c.endow.new.ds ≡ c.args.self.now.objects = search rules in record { few = c.args.self.now.few; wide = length_filled c.endow.new.ds (replicate 16 nothing) c.args.self.now.objects k c.args.self.now.few refl }

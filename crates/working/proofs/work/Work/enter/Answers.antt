@@ -6,18 +6,23 @@ use Rattle.cards.specs.Trees.{block_of}
 use Rattle.working.proofs.Stacks.{stack_push, deepest_push}
 use Rattle.working.proofs.work.Work.enter.Goals as goal
 
-pub invariant-of-self : goal.invariant-of-self
-invariant-of-self c =
+pub invariant_of-self : goal.invariant_of-self
+invariant_of-self c =
     let w = c.args.self.now in
-    let p = c.push-reserved.ensures in
+    let p = c.push_reserved.ensures in
     let f = After c.args.rest in
     let x = block_of c.args.arm.now in
-    (omega (arith, c.requires.arm, p.len), (deepest_push _ w.frames.items f p.items w.place.depth w.frames.len w.frames.ok.0 w.frames_fit c.requires.rest, (omega (arith, p.capacity, w.room), (omega (arith, c.requires.few, ap (λ (b : Block). task_bound (x before b)) (stack_push _ w.frames.items f p.items end)), tt))))
+    record {
+      fits = omega (arith, c.requires.arm, p.len);
+      frames_fit = deepest_push _ w.frames.items f p.items w.place.depth w.frames.len w.frames.ok.0 w.frames_fit c.requires.rest;
+      room = omega (arith, p.capacity, w.room);
+      few = omega (arith, c.requires.few, ap (λ (b : Block). task_bound (x before b)) (stack_push _ w.frames.items f p.items end));
+    }
 
 pub returns : goal.returns
 returns c =
     let w = c.args.self.now in
     record {
-      work = ap (λ (b : Block). block_of c.args.arm.now before b) (stack_push _ w.frames.items (After c.args.rest) c.push-reserved.ensures.items end);
+      work = ap (λ (b : Block). block_of c.args.arm.now before b) (stack_push _ w.frames.items (After c.args.rest) c.push_reserved.ensures.items end);
       stays = (refl, refl);
     }

@@ -8,8 +8,8 @@ use Rattle.working.specs.Frames.{stack, frame_block, frame_depth}
 use Rattle.working.proofs.Stacks.{popped, all_past, deepest_pop, task_bound_end, task_bound_frame, depth_end}
 use Rattle.working.proofs.work.Work.head.Goals as goal
 
-pub invariant-of-self-in-After : goal.invariant-of-self-in-After
-invariant-of-self-in-After c =
+pub invariant_of-self-in-After : goal.invariant_of-self-in-After
+invariant_of-self-in-After c =
     let w = c.loop-self.self in
     let v = c.pop.new.self in
     let p = c.in-Some.ensures in
@@ -18,7 +18,12 @@ invariant-of-self-in-After c =
     let d = deepest_pop w.frames.items v.items f p.items w.place.depth v.len v.ok.0 w.frames_fit in
     let e = ap (λ (y : Frame). frame_depth y) c.in-After.is in
     let b = popped x w.frames.items v.items f (ap block_of c.in-End.is) p.items ∙ ap (λ (y : Frame). frame_block y (stack v.items end)) c.in-After.is in
-    (omega (arith, d.1, e), (d.0, (omega (arith, p.capacity, w.room), (omega (arith, w.few, ap task_bound b), tt))))
+    record {
+      fits = omega (arith, d.1, e);
+      frames_fit = d.0;
+      room = omega (arith, p.capacity, w.room);
+      few = omega (arith, w.few, ap task_bound b);
+    }
 
 pub loop-self-preserved : goal.loop-self-preserved
 loop-self-preserved c =
@@ -29,20 +34,20 @@ loop-self-preserved c =
     let b = popped (block_of w.at.now) w.frames.items v.items f (ap block_of c.in-End.is) p.items ∙ ap (λ (y : Frame). frame_block y (stack v.items end)) c.in-After.is in
     (sym b ∙ c.loop-self.invariant.0, c.loop-self.invariant.1)
 
-pub returns-in-default : goal.returns-in-default
-returns-in-default c =
+pub returns-in_default : goal.returns-in_default
+returns-in_default c =
     let w = c.loop-self.self in
     let v = c.pop.new.self in
     let x = block_of w.at.now in
     let e = ap block_of c.in-End.is in
-    let p = c.in-default.ensures in
+    let p = c.in_default.ensures in
     record {
       heads = (sym c.loop-self.invariant.0 ∙ all_past x w.frames.items e (nil_from_length w.frames.items (sym w.frames.ok.0 ∙ p.cases.0)), all_past x v.items e (nil_from_length v.items (sym v.ok.0 ∙ p.cases.1)));
       stays = c.loop-self.invariant.1;
     }
 
-pub invariant-of-self-in-Again· : goal.invariant-of-self-in-Again·
-invariant-of-self-in-Again· c =
+pub invariant_of-self-in-Again-1 : goal.invariant_of-self-in-Again-1
+invariant_of-self-in-Again-1 c =
     let w = c.loop-self.self in
     let v = c.pop.new.self in
     let p = c.in-Some.ensures in
@@ -50,7 +55,12 @@ invariant-of-self-in-Again· c =
     let x = block_of w.at.now in
     let d = deepest_pop w.frames.items v.items f p.items w.place.depth v.len v.ok.0 w.frames_fit in
     let b = popped x w.frames.items v.items f (ap block_of c.in-End.is) p.items in
-    (omega (arith, d.1, depth_end x (ap block_of c.in-End.is)), (d.0, (omega (arith, p.capacity, w.room), (omega (arith, w.few, ap task_bound b, task_bound_frame f (stack v.items end), task_bound_end x (stack v.items end) (ap block_of c.in-End.is)), tt))))
+    record {
+      fits = omega (arith, d.1, depth_end x (ap block_of c.in-End.is));
+      frames_fit = d.0;
+      room = omega (arith, p.capacity, w.room);
+      few = omega (arith, w.few, ap task_bound b, task_bound_frame f (stack v.items end), task_bound_end x (stack v.items end) (ap block_of c.in-End.is));
+    }
 
 pub returns-in-Again : goal.returns-in-Again
 returns-in-Again c =
