@@ -1,6 +1,6 @@
 -- What each call answers, and what it leaves.
 use Rattle.std.specs.Prelude.{ℕ, zero, suc, cond, List, [], ◌∷◌, ◌++◌, length, drop}
-use Rattle.std.proofs.Math.Option.{Option, none, some, Option·elim}
+use Rattle.std.proofs.Math.Option.{Option, none, some, Option-elim}
 use Rattle.kinds.specs.Kinds.{Kind}
 use Rattle.working.specs.Requests.{Reply, faulted, stepped}
 use Rattle.runs.specs.Lines.{find}
@@ -21,7 +21,7 @@ reply_answer (stepped x) = done
 
 -- what a step of task n answers
 unfoldable pub step_answer : Kind → ℕ → Bench → Answer
-step_answer k n b = Option·elim (find n b.line) (refused Foreign) λ s. reply_answer (replied k b s)
+step_answer k n b = Option-elim (find n b.line) (refused Foreign) λ s. reply_answer (replied k b s)
 
 -- the turn of the task that f chooses is taken and performed
 unfoldable pub turned : Kind → (List ℕ → ℕ) → Bench → Bench

@@ -1,6 +1,6 @@
 -- The events of a run, and what a list of granted ones makes of a bench.
 use Rattle.std.specs.Prelude.{ℕ, Bool, false, cond, not, ◌&&◌, List, [], ◌∷◌}
-use Rattle.std.proofs.Math.Option.{Option, none, some, Option·elim}
+use Rattle.std.proofs.Math.Option.{Option, none, some, Option-elim}
 use Rattle.kinds.specs.Kinds.{Kind}
 use Rattle.runs.specs.Lines.{waiting, out, is_out, Member, find, any_out}
 use Rattle.runs.specs.Ready.{on_offer}
@@ -13,10 +13,10 @@ pub data Event : Type 0 where
   closed : Event
 
 unfoldable pub can_take : ℕ → List Member → Bool
-can_take n line = Option·elim (find n line) false (on_offer line)
+can_take n line = Option-elim (find n line) false (on_offer line)
 
 unfoldable pub has_turn : ℕ → List Member → Bool
-has_turn n line = Option·elim (find n line) false λ s. is_out s.status
+has_turn n line = Option-elim (find n line) false λ s. is_out s.status
 
 -- settled, with no turn out
 unfoldable pub can_close : Bench → Bool
@@ -41,4 +41,4 @@ apply k e b = cond (not b.closed && grants e b) (some (effect k e b)) none
 
 unfoldable pub replay : Kind → List Event → Bench → Option Bench
 replay k [] b = some b
-replay k (e ∷ es) b = Option·elim (apply k e b) none (replay k es)
+replay k (e ∷ es) b = Option-elim (apply k e b) none (replay k es)

@@ -1,6 +1,6 @@
 -- Runs of two cards, worked out.
 use Rattle.std.specs.Prelude.{◌≡◌, ℕ, ◌-◌, ◌^◌, true, List, [], ◌∷◌, ◌++◌, replicate, pos, negsuc, codes}
-use Rattle.std.proofs.Math.Option.{Option, none, some, Option·elim}
+use Rattle.std.proofs.Math.Option.{Option, none, some, Option-elim}
 use Prim.Native.String.{String}
 use Rattle.kinds.specs.Values.{tally}
 use Rattle.cards.specs.declared.lines.Access.{Access}
@@ -83,7 +83,7 @@ after es = replay tally es (opened tally two_faults 3)
 
 -- the outcome, if the run is settled
 abbrev settles : List Event → Option Outcome
-settles es = Option·elim (after es) none outcome
+settles es = Option-elim (after es) none outcome
 
 -- the answers of a list of calls
 abbrev answers : List Call → Bench → List Answer
