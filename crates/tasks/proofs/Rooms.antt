@@ -1,4 +1,4 @@
--- Room for tasks, and the facts that the type keeps.
+-- Room for tasks.
 use Rattle.std.proofs.Common.{◌≡◌, ℕ, zero, suc, ◌+◌, ◌<◌, ◌≤◌, List, [], ◌∷◌, ◌++◌, get_or, set, replicate, Some, sym, refl, ap, ◌∙◌, arith}
 use Rattle.std.specs.List.{slice_get}
 use Rattle.std.specs.Option.{option_map}
@@ -60,7 +60,3 @@ unfolding sizes
 sizes_at rs i r n o e h s =
     let p : slice_get (sizes rs) i ≡ Some r.objects = slice_get-map (λ x. x.objects) rs i ∙ ap (option_map (λ (x : Record). x.objects)) e in
     sym (getD_known (sizes rs) i r.objects 0 p) ∙ ap (λ (l : List ℕ). get_or l i 0) s ∙ get_or-replicate n i o 0 h
-
--- the facts of the type, as they are asked for
-pub facts : {A B C D E F G : Type 0} → A → B → C → D → E → F → G → A × (B × (C × (D × (E × (F × (G × Unit {0}))))))
-facts a b c d e f g = (a, (b, (c, (d, (e, (f, (g, tt)))))))

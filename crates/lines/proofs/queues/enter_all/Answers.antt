@@ -11,14 +11,14 @@ loop-o-init c = (refl, changed_none (λ k. entered c.args.maker c.args.child (ge
 
 pub enter-requires : goal.enter-requires
 enter-requires c =
-    queue_short (λ k. entered c.args.maker c.args.child (get_or c.args.ds.now k nothing)) (queues_of (vec_items c.args.queues.now)) c.loop-o.o c.loop-o.queues.items c.index-mut.result.now 64
-    (omega (arith, c.loop-o.queues.ok.0, c.loop-o.invariant.0)) c.index-mut.ensures.value c.loop-o.invariant.1 (c.requires.room c.loop-o.o)
+    queue_short (λ k. entered c.args.maker c.args.child (get_or c.args.ds.now k nothing)) (queues_of (vec_items c.args.queues.now)) c.loop-o.o c.loop-o.queues.items c.index_mut.result.now 64
+    (omega (arith, c.loop-o.queues.ok.0, c.loop-o.invariant.0)) c.index_mut.ensures.value c.loop-o.invariant.1 (c.requires.room c.loop-o.o)
 
 pub loop-o-preserved : goal.loop-o-preserved
 loop-o-preserved c = (
   c.loop-o.invariant.0,
-  queue_more (λ k. entered c.args.maker c.args.child (get_or c.args.ds.now k nothing)) (queues_of (vec_items c.args.queues.now)) c.loop-o.o c.loop-o.queues.items c.enter.new.self c.index-mut.result.now
-      (omega (arith, c.loop-o.queues.ok.0, c.loop-o.invariant.0)) c.index-mut.ensures.value c.enter.ensures c.loop-o.invariant.1,
+  queue_more (λ k. entered c.args.maker c.args.child (get_or c.args.ds.now k nothing)) (queues_of (vec_items c.args.queues.now)) c.loop-o.o c.loop-o.queues.items c.enter.new.self c.index_mut.result.now
+      (omega (arith, c.loop-o.queues.ok.0, c.loop-o.invariant.0)) c.index_mut.ensures.value c.enter.ensures c.loop-o.invariant.1,
 )
 
 pub returns : goal.returns

@@ -8,10 +8,10 @@ loop-e-preserved c =
     let e = get_or c.args.entries.now c.loop-e.e-index no_entry in
     let flag : Bool = get_or c.loop-e.clear e.number false in (
       length-set _ _ _ ∙ c.loop-e.invariant.0,
-      λ n. pass_more c.args.entries.now c.loop-e.e-index e c.loop-e.clear c.loop-e.so_far c.past-so-far.result (flag && c.lets.result) n
+      λ n. pass_more c.args.entries.now c.loop-e.e-index e c.loop-e.clear c.loop-e.so_far c.past-so_far.result (flag && c.lets.result) n
           c.loop-e-test.true (omega (arith, c.loop-e.invariant.0)) (get_or_default c.args.entries.now c.loop-e.e-index no_entry _ c.loop-e-test.true)
           (ap (λ (x : Bool). flag && x) c.lets.ensures)
-          c.past-so-far.ensures
+          c.past-so_far.ensures
           ∙ c.loop-e.invariant.1 n,
     )
 

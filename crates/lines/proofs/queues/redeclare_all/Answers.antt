@@ -12,8 +12,8 @@ loop-o-init c = (refl, changed_none (λ k. redeclared c.args.n (get_or c.args.ds
 pub loop-o-preserved : goal.loop-o-preserved
 loop-o-preserved c = (
   c.loop-o.invariant.0,
-  queue_more (λ k. redeclared c.args.n (get_or c.args.ds.now k nothing)) (queues_of (vec_items c.args.queues.now)) c.loop-o.o c.loop-o.queues.items c.redeclare.new.self c.index-mut.result.now
-      (omega (arith, c.loop-o.queues.ok.0, c.loop-o.invariant.0)) c.index-mut.ensures.value c.redeclare.ensures c.loop-o.invariant.1,
+  queue_more (λ k. redeclared c.args.n (get_or c.args.ds.now k nothing)) (queues_of (vec_items c.args.queues.now)) c.loop-o.o c.loop-o.queues.items c.redeclare.new.self c.index_mut.result.now
+      (omega (arith, c.loop-o.queues.ok.0, c.loop-o.invariant.0)) c.index_mut.ensures.value c.redeclare.ensures c.loop-o.invariant.1,
 )
 
 pub returns : goal.returns

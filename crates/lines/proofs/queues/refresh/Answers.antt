@@ -14,7 +14,7 @@ loop-o-preserved c = (
   c.pass.array_long,
   λ n lt. each_more (λ o. clear_from n at_first (get_or (queues_of (vec_items c.args.queues.now)) o [])) c.loop-o.o (get_or c.pass.new.clear n false) (get_or c.loop-o.clear n false) (c.loop-o.invariant.1 n lt)
       (c.pass.ensures n lt ∙ ap (λ (es : List Entry). clear_from n at_first es && get_or c.loop-o.clear n false)
-      (c.as-slice.ensures.value ∙ sym (getD_queues (vec_items c.args.queues.now) c.loop-o.o c.index.result.now (omega (arith, c.args.queues.now.ok.0)) c.index.ensures))),
+      (c.as_slice.ensures.value ∙ sym (getD_queues (vec_items c.args.queues.now) c.loop-o.o c.index.result.now (omega (arith, c.args.queues.now.ok.0)) c.index.ensures))),
 )
 
 pub returns : goal.returns

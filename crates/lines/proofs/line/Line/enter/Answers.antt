@@ -16,8 +16,8 @@ use Rattle.lines.proofs.Holds.{Holds, holds, holds_entered, telling_entered}
 use Rattle.lines.proofs.line.Line.enter.Goals.{After-refresh}
 use Rattle.lines.proofs.line.Line.enter.Goals as goal
 
-pub enter-all-requires : goal.enter-all-requires
-enter-all-requires c =
+pub enter_all-requires : goal.enter_all-requires
+enter_all-requires c =
     let m = c.mark.new.self in
     record {
       sized = omega (arith, c.requires.sized, c.mark.ensures.sized.0);
@@ -25,11 +25,11 @@ enter-all-requires c =
     }
 
 -- the queues, before and after
-long : (c : After-refresh) → length (queues_of (vec_items c.enter-all.new.queues)) ≡ length (queues_of (vec_items c.mark.new.self.queues))
+long : (c : After-refresh) → length (queues_of (vec_items c.enter_all.new.queues)) ≡ length (queues_of (vec_items c.mark.new.self.queues))
 long c =
     let v = c.mark.new.self.queues in
-    let w = c.enter-all.new.queues in
-    length_queues (vec_items w) ∙ sym w.ok.0 ∙ c.enter-all.ensures.len ∙ v.ok.0 ∙ sym (length_queues (vec_items v))
+    let w = c.enter_all.new.queues in
+    length_queues (vec_items w) ∙ sym w.ok.0 ∙ c.enter_all.ensures.len ∙ v.ok.0 ∙ sym (length_queues (vec_items v))
 
 narrower : (c : After-refresh) → Narrower (declared_by (queues_of (vec_items c.mark.new.self.queues)) c.args.maker) c.args.child.now
 narrower c = subst (λ v. Narrower (declared_by (queues_of (vec_items v)) c.args.maker) c.args.child.now) (sym c.mark.ensures.kept.1) c.requires.narrower
@@ -37,27 +37,30 @@ narrower c = subst (λ v. Narrower (declared_by (queues_of (vec_items v)) c.args
 few : (c : After-refresh) → c.mark.new.self.made < 256
 few c = omega (arith, c.mark.ensures.sized.1, c.requires.room)
 
-pub invariant-of-self : goal.invariant-of-self
-invariant-of-self c =
+pub invariant_of-self : goal.invariant_of-self
+invariant_of-self c =
     let s = c.args.self.now in
     let m = c.mark.new.self in
-    let row = c.put-before.new.row in
-    let qs = queues_of (vec_items c.enter-all.new.queues) in
+    let row = c.put_before.new.row in
+    let qs = queues_of (vec_items c.enter_all.new.queues) in
     let ss = set m.states m.made Waiting in
     let lt : c.args.maker < length s.states = omega (arith, s.numbers) in
     let in_line : is_out (state_at m.states c.args.maker) ≡ false = ap (λ (l : List State). is_out (state_at l c.args.maker)) c.mark.ensures.states ∙ not_out_marked s.states c.args.maker Waiting lt refl in
     let h : Holds (vec_items row) qs ss (m.made + 1)
-    = subst (λ (ns : List ℕ). Holds ns qs ss (m.made + 1)) (sym c.put-before.ensures.items) (holds_entered (holds m) c.args.maker (few c) c.args.child.now (narrower c) qs (long c) c.enter-all.ensures.items in_line) in
-    let longer : length (vec_items row) ≡ length (vec_items m.order) + 1 = ap length c.put-before.ensures.items ∙ length_enter m.made c.args.maker (vec_items m.order) in (
-      omega (arith, c.mark.ensures.sized.1, c.requires.room),
-      (
-        omega (arith, m.short, m.order.ok.0, row.ok.0, longer),
-        (
-          omega (arith, c.put-before.ensures.capacity, m.room),
-          (h.numbers, (h.known, (h.once, (h.left, (queued_stored qs ss (vec_items row) h.queued, (h.turns, (c.refresh.ensures, tt))))))),
-        ),
-      ),
-    )
+    = subst (λ (ns : List ℕ). Holds ns qs ss (m.made + 1)) (sym c.put_before.ensures.items) (holds_entered (holds m) c.args.maker (few c) c.args.child.now (narrower c) qs (long c) c.enter_all.ensures.items in_line) in
+    let longer : length (vec_items row) ≡ length (vec_items m.order) + 1 = ap length c.put_before.ensures.items ∙ length_enter m.made c.args.maker (vec_items m.order) in
+    record {
+      few = omega (arith, c.mark.ensures.sized.1, c.requires.room);
+      short = omega (arith, m.short, m.order.ok.0, row.ok.0, longer);
+      room = omega (arith, c.put_before.ensures.capacity, m.room);
+      numbers = h.numbers;
+      known = h.known;
+      once = h.once;
+      unfinished = h.left;
+      stored = queued_stored qs ss (vec_items row) h.queued;
+      turns = h.turns;
+      flags = c.refresh.ensures;
+    }
 
 pub returns : goal.returns
 returns c =
@@ -67,7 +70,7 @@ returns c =
     let r = c.args.child.now in
     let n = m.made in
     let ns = vec_items s.order in
-    let qs = queues_of (vec_items c.enter-all.new.queues) in
+    let qs = queues_of (vec_items c.enter_all.new.queues) in
     let wide : length r ≡ length (queues_of (vec_items m.queues)) = omega (arith, c.requires.sized, c.mark.ensures.sized.0, m.queues.ok.0, length_queues (vec_items m.queues)) in
     let there : absent itself c.args.maker ns ≡ false = s.unfinished c.args.maker ∙ c.requires.live in
     let fresh : absent itself n ns ≡ true = ap (λ (k : ℕ). absent itself k ns) c.mark.ensures.sized.1 ∙ below_absent s.made ns s.known in
@@ -76,13 +79,13 @@ returns c =
     record {
       number = c.mark.ensures.sized.1;
       line = λ t u but.
-          ap (members_at (set m.states n Waiting) u) (c.put-before.ensures.items ∙ ap (λ v. put_before itself c.args.maker n (vec_items v)) c.mark.ensures.kept.0)
+          ap (members_at (set m.states n Waiting) u) (c.put_before.ensures.items ∙ ap (λ v. put_before itself c.args.maker n (vec_items v)) c.mark.ensures.kept.0)
           ∙ members_entered s.states t u ns s.once c.args.maker n but (λ e. omega (arith, e, c.mark.ensures.sized.1, there_below s.made c.args.maker ns s.known there)) there fresh in_n in_c (set m.states n Waiting)
           (ap (λ (l : List State). set l n Waiting) (c.mark.ensures.states ∙ cond-false (is_finished (state_at s.states c.args.maker)) s.states (set s.states c.args.maker Waiting) c.requires.live));
       tells = λ t u but same is tells.
-          telling_entered (holds m) c.args.maker (few f) r (narrower f) qs (long f) c.enter-all.ensures.items t u wide
+          telling_entered (holds m) c.args.maker (few f) r (narrower f) qs (long f) c.enter_all.ensures.items t u wide
           (λ k ne. ⊎_elim (λ e. ap (λ (j : ℕ). (u j).declared) e ∙ same ∙ ap (λ (j : ℕ). (t j).declared) (sym e)) (λ g. ap (λ (x : Task). x.declared) (but k g ne)) (cases_eq k c.args.maker))
           is (c.mark.ensures.tells t t (λ k ne. refl) refl tells);
-      objects = c.enter-all.ensures.len ∙ c.mark.ensures.sized.0;
+      objects = c.enter_all.ensures.len ∙ c.mark.ensures.sized.0;
       made = ap (λ (k : ℕ). k + 1) c.mark.ensures.sized.1;
     }

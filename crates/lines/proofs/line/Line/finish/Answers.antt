@@ -9,34 +9,37 @@ use Rattle.lines.proofs.Members.{members_finished}
 use Rattle.lines.proofs.Holds.{Holds, holds, holds_finished, telling_finished}
 use Rattle.lines.proofs.line.Line.finish.Goals as goal
 
-pub invariant-of-self : goal.invariant-of-self
-invariant-of-self c =
+pub invariant_of-self : goal.invariant_of-self
+invariant_of-self c =
     let s = c.args.self.now in
-    let row = c.take-out.new.row in
-    let v = c.leave-all.new.queues in
+    let row = c.take_out.new.row in
+    let v = c.leave_all.new.queues in
     let lt : c.args.n < 256 = omega arith in
-    let long : length (queues_of (vec_items v)) ≡ length (queues_of (vec_items s.queues)) = length_queues (vec_items v) ∙ sym v.ok.0 ∙ c.leave-all.ensures.len ∙ s.queues.ok.0 ∙ sym (length_queues (vec_items s.queues)) in
+    let long : length (queues_of (vec_items v)) ≡ length (queues_of (vec_items s.queues)) = length_queues (vec_items v) ∙ sym v.ok.0 ∙ c.leave_all.ensures.len ∙ s.queues.ok.0 ∙ sym (length_queues (vec_items s.queues)) in
     let h : Holds (vec_items row) (queues_of (vec_items v)) (set s.states c.args.n Finished) s.made
-    = subst (λ (ns : List ℕ). Holds ns (queues_of (vec_items v)) (set s.states c.args.n Finished) s.made) (sym c.take-out.ensures.items) (holds_finished (holds s) c.args.n lt (queues_of (vec_items v)) long c.leave-all.ensures.items) in
-    let shorter : length (vec_items row) ≡ length (without itself c.args.n (vec_items s.order)) = ap length c.take-out.ensures.items in (
-      s.few,
-      (
-        omega (arith, s.short, s.order.ok.0, row.ok.0, shorter, length_out c.args.n (vec_items s.order)),
-        (
-          omega (arith, c.take-out.ensures.capacity, s.room),
-          (h.numbers, (h.known, (h.once, (h.left, (queued_stored (queues_of (vec_items v)) (set s.states c.args.n Finished) (vec_items row) h.queued, (h.turns, (c.refresh.ensures, tt))))))),
-        ),
-      ),
-    )
+    = subst (λ (ns : List ℕ). Holds ns (queues_of (vec_items v)) (set s.states c.args.n Finished) s.made) (sym c.take_out.ensures.items) (holds_finished (holds s) c.args.n lt (queues_of (vec_items v)) long c.leave_all.ensures.items) in
+    let shorter : length (vec_items row) ≡ length (without itself c.args.n (vec_items s.order)) = ap length c.take_out.ensures.items in
+    record {
+      few = s.few;
+      short = omega (arith, s.short, s.order.ok.0, row.ok.0, shorter, length_out c.args.n (vec_items s.order));
+      room = omega (arith, c.take_out.ensures.capacity, s.room);
+      numbers = h.numbers;
+      known = h.known;
+      once = h.once;
+      unfinished = h.left;
+      stored = queued_stored (queues_of (vec_items v)) (set s.states c.args.n Finished) (vec_items row) h.queued;
+      turns = h.turns;
+      flags = c.refresh.ensures;
+    }
 
 pub returns : goal.returns
 returns c =
     let s = c.args.self.now in
-    let v = c.leave-all.new.queues in
+    let v = c.leave_all.new.queues in
     let lt : c.args.n < 256 = omega arith in
-    let long : length (queues_of (vec_items v)) ≡ length (queues_of (vec_items s.queues)) = length_queues (vec_items v) ∙ sym v.ok.0 ∙ c.leave-all.ensures.len ∙ s.queues.ok.0 ∙ sym (length_queues (vec_items s.queues)) in
+    let long : length (queues_of (vec_items v)) ≡ length (queues_of (vec_items s.queues)) = length_queues (vec_items v) ∙ sym v.ok.0 ∙ c.leave_all.ensures.len ∙ s.queues.ok.0 ∙ sym (length_queues (vec_items s.queues)) in
     record {
-      line = λ t u but. ap (members_at (set s.states c.args.n Finished) u) c.take-out.ensures.items ∙ members_finished s.states t u (vec_items s.order) s.once c.args.n but Finished;
-      tells = λ t u but tells. telling_finished (holds s) c.args.n lt (queues_of (vec_items v)) long c.leave-all.ensures.items t u but tells;
-      sized = (c.leave-all.ensures.len, refl);
+      line = λ t u but. ap (members_at (set s.states c.args.n Finished) u) c.take_out.ensures.items ∙ members_finished s.states t u (vec_items s.order) s.once c.args.n but Finished;
+      tells = λ t u but tells. telling_finished (holds s) c.args.n lt (queues_of (vec_items v)) long c.leave_all.ensures.items t u but tells;
+      sized = (c.leave_all.ensures.len, refl);
     }

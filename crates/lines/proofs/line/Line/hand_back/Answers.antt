@@ -19,11 +19,11 @@ returns-in-Return c =
       sized = c.wait.ensures.sized;
     }
 
-pub returns-in-default : goal.returns-in-default
-returns-in-default c =
+pub returns-in_default : goal.returns-in_default
+returns-in_default c =
     let s = c.args.self.now in
     record {
-      granted = λ t. sym (no_return (state_of s c.args.n) (λ e. c.in-default.not-Return (c.decide.ensures ∙ ap (λ (x : State). deed x HandBack) c.state.ensures ∙ e))) ∙ turn_is s.states (vec_items s.order) t s.unfinished c.args.n;
+      granted = λ t. sym (no_return (state_of s c.args.n) (λ e. c.in_default.not-Return (c.decide.ensures ∙ ap (λ (x : State). deed x HandBack) c.state.ensures ∙ e))) ∙ turn_is s.states (vec_items s.order) t s.unfinished c.args.n;
       found = λ t (e : false ≡ true). absurd (both_ways false refl e);
       line = λ t. refl;
       tells = λ t h. h;

@@ -21,10 +21,10 @@ returns-in-Step c =
       live = λ _. out_live (state_of s c.args.n) out;
     }
 
-pub returns-in-default : goal.returns-in-default
-returns-in-default c =
+pub returns-in_default : goal.returns-in_default
+returns-in_default c =
     let s = c.args.self.now in
-    let out : is_out (state_of s c.args.n) ≡ false = no_step (state_of s c.args.n) (λ e. c.in-default.not-Step (c.decide.ensures ∙ ap (λ (x : State). deed x Perform) c.state.ensures ∙ e)) in
+    let out : is_out (state_of s c.args.n) ≡ false = no_step (state_of s c.args.n) (λ e. c.in_default.not-Step (c.decide.ensures ∙ ap (λ (x : State). deed x Perform) c.state.ensures ∙ e)) in
     record {
       turn = λ t. sym out ∙ turn_is s.states (vec_items s.order) t s.unfinished c.args.n;
       ready = λ t tells (e : false ≡ true). absurd (both_ways false refl e);

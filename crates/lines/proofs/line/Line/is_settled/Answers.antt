@@ -10,4 +10,4 @@ returns-in-None c = λ t. settled_none (line_of c.args.self.now t) (c.in-None.en
 pub returns-in-Some : goal.returns-in-Some
 returns-in-Some c = λ t.
     let p = c.in-Some.ensures t in
-    settled_some (line_of c.args.self.now t) p.0 c.in-Some.n (state_of c.args.self.now c.in-Some.n) (t c.in-Some.n) c.is-stuck.result (c.is-stuck.ensures ∙ ap is_stuck c.state.ensures) p.1
+    settled_some (line_of c.args.self.now t) p.0 c.in-Some.n (state_of c.args.self.now c.in-Some.n) (t c.in-Some.n) c.is_stuck.result (c.is_stuck.ensures ∙ ap is_stuck c.state.ensures) p.1

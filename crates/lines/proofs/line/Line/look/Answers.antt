@@ -13,8 +13,8 @@ pub returns-then-object-len : goal.returns-then-object-len
 returns-then-object-len c = λ t tells.
     let s = c.args.self.now in
     let qs = queues_of (vec_items s.queues) in
-    ap shown c.copied.ensures ∙ entry_got c.as-slice.result.now c.args.place c.get.result c.get.ensures.lookup.3
-    ∙ ap (entry_at c.args.place) (c.as-slice.ensures.value ∙ sym (getD_queues (vec_items s.queues) c.args.object c.index.result.now (omega (arith, s.queues.ok.0)) c.index.ensures) ∙ sym (queue_stored qs s.states t (vec_items s.order) (holds s).queued (told (holds s) t tells) c.args.object))
+    ap shown c.copied.ensures ∙ entry_got c.as_slice.result.now c.args.place c.get.result c.get.ensures.lookup.3
+    ∙ ap (entry_at c.args.place) (c.as_slice.ensures.value ∙ sym (getD_queues (vec_items s.queues) c.args.object c.index.result.now (omega (arith, s.queues.ok.0)) c.index.ensures) ∙ sym (queue_stored qs s.states t (vec_items s.order) (holds s).queued (told (holds s) t tells) c.args.object))
 
 pub returns-else-object-len : goal.returns-else-object-len
 returns-else-object-len c = λ t tells.

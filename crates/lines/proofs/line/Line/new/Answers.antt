@@ -6,46 +6,49 @@ use Rattle.lines.proofs.Holds.{Holds, first_states, line_new, holds_new, telling
 use Rattle.lines.proofs.line.Line.new.Goals.{After-refresh}
 use Rattle.lines.proofs.line.Line.new.Goals as goal
 
-pub enter-all-requires : goal.enter-all-requires
-enter-all-requires c =
+pub enter_all-requires : goal.enter_all-requires
+enter_all-requires c =
     let r = c.args.main.now in
-    let q = c.in-ok-queues.ensures in
+    let q = c.in_ok-queues.ensures in
     record {
       sized = omega (arith, q.0);
-      room = λ o. omega (arith, ap length (getD_empty (queues_of (vec_items c.in-ok-queues.queues)) (length r) o q.1));
+      room = λ o. omega (arith, ap length (getD_empty (queues_of (vec_items c.in_ok-queues.queues)) (length r) o q.1));
     }
 
-items : (c : After-refresh) → vec_items c.push-reserved.new.self ≡ 0 ∷ []
-items c = c.push-reserved.ensures.items ∙ ap (λ (l : List ℕ). l ++ 0 ∷ []) c.in-ok-order.ensures.items
+items : (c : After-refresh) → vec_items c.push_reserved.new.self ≡ 0 ∷ []
+items c = c.push_reserved.ensures.items ∙ ap (λ (l : List ℕ). l ++ 0 ∷ []) c.in_ok-order.ensures.items
 
-empty : (c : After-refresh) (o : ℕ) → get_or (queues_of (vec_items c.in-ok-queues.queues)) o [] ≡ []
-empty c o = getD_empty (queues_of (vec_items c.in-ok-queues.queues)) (length c.args.main.now) o c.in-ok-queues.ensures.1
+empty : (c : After-refresh) (o : ℕ) → get_or (queues_of (vec_items c.in_ok-queues.queues)) o [] ≡ []
+empty c o = getD_empty (queues_of (vec_items c.in_ok-queues.queues)) (length c.args.main.now) o c.in_ok-queues.ensures.1
 
-pub invariant-of-result : goal.invariant-of-result
-invariant-of-result c =
-    let o = c.in-ok-order.ensures in
-    let row = c.push-reserved.new.self in
-    let qs = queues_of (vec_items c.enter-all.new.queues) in
+pub invariant_of-result : goal.invariant_of-result
+invariant_of-result c =
+    let o = c.in_ok-order.ensures in
+    let row = c.push_reserved.new.self in
+    let qs = queues_of (vec_items c.enter_all.new.queues) in
     let h : Holds (vec_items row) qs first_states 1
-    = subst (λ (ns : List ℕ). Holds ns qs first_states 1) (sym (items c)) (holds_new c.args.main.now (queues_of (vec_items c.in-ok-queues.queues)) qs (empty c) c.enter-all.ensures.items) in (
-      omega arith,
-      (
-        omega (arith, row.ok.0, ap length (items c)),
-        (
-          omega (arith, c.push-reserved.ensures.capacity, o.capacity),
-          (h.numbers, (h.known, (h.once, (h.left, (queued_stored qs first_states (vec_items row) h.queued, (h.turns, (c.refresh.ensures, tt))))))),
-        ),
-      ),
-    )
+    = subst (λ (ns : List ℕ). Holds ns qs first_states 1) (sym (items c)) (holds_new c.args.main.now (queues_of (vec_items c.in_ok-queues.queues)) qs (empty c) c.enter_all.ensures.items) in
+    record {
+      few = omega arith;
+      short = omega (arith, row.ok.0, ap length (items c));
+      room = omega (arith, c.push_reserved.ensures.capacity, o.capacity);
+      numbers = h.numbers;
+      known = h.known;
+      once = h.once;
+      unfinished = h.left;
+      stored = queued_stored qs first_states (vec_items row) h.queued;
+      turns = h.turns;
+      flags = c.refresh.ensures;
+    }
 
 pub returns : goal.returns
 returns c =
     let f = (goal.at.returns c).After-refresh in
     let r = c.args.main.now in
-    let v = c.enter-all.new.queues in
-    let wide : length r ≡ length (queues_of (vec_items v)) = omega (arith, c.enter-all.ensures.len, c.in-ok-queues.ensures.0, v.ok.0, length_queues (vec_items v)) in
+    let v = c.enter_all.new.queues in
+    let wide : length r ≡ length (queues_of (vec_items v)) = omega (arith, c.enter_all.ensures.len, c.in_ok-queues.ensures.0, v.ok.0, length_queues (vec_items v)) in
     record {
       line = λ t. ap (members_at first_states t) (items f) ∙ line_new t;
-      tells = λ t is. telling_new r (queues_of (vec_items c.in-ok-queues.queues)) (queues_of (vec_items v)) wide (empty f) c.enter-all.ensures.items t is;
-      sized = (c.enter-all.ensures.len ∙ c.in-ok-queues.ensures.0, refl);
+      tells = λ t is. telling_new r (queues_of (vec_items c.in_ok-queues.queues)) (queues_of (vec_items v)) wide (empty f) c.enter_all.ensures.items t is;
+      sized = (c.enter_all.ensures.len ∙ c.in_ok-queues.ensures.0, refl);
     }

@@ -12,34 +12,45 @@ use Rattle.lines.proofs.line.Line.redeclare.Goals.{After-refresh}
 use Rattle.lines.proofs.line.Line.redeclare.Goals as goal
 
 -- the queues, before and after
-long : (c : After-refresh) → length (queues_of (vec_items c.redeclare-all.new.queues)) ≡ length (queues_of (vec_items c.mark.new.self.queues))
+long : (c : After-refresh) → length (queues_of (vec_items c.redeclare_all.new.queues)) ≡ length (queues_of (vec_items c.mark.new.self.queues))
 long c =
     let v = c.mark.new.self.queues in
-    let w = c.redeclare-all.new.queues in
-    length_queues (vec_items w) ∙ sym w.ok.0 ∙ c.redeclare-all.ensures.len ∙ v.ok.0 ∙ sym (length_queues (vec_items v))
+    let w = c.redeclare_all.new.queues in
+    length_queues (vec_items w) ∙ sym w.ok.0 ∙ c.redeclare_all.ensures.len ∙ v.ok.0 ∙ sym (length_queues (vec_items v))
 
 narrower : (c : After-refresh) → Narrower (declared_by (queues_of (vec_items c.mark.new.self.queues)) c.args.n) c.args.declared.now
 narrower c = subst (λ v. Narrower (declared_by (queues_of (vec_items v)) c.args.n) c.args.declared.now) (sym c.mark.ensures.kept.1) c.requires.narrower
 
-pub invariant-of-self : goal.invariant-of-self
-invariant-of-self c =
+pub invariant_of-self : goal.invariant_of-self
+invariant_of-self c =
     let s = c.args.self.now in
     let m = c.mark.new.self in
-    let qs = queues_of (vec_items c.redeclare-all.new.queues) in
+    let qs = queues_of (vec_items c.redeclare_all.new.queues) in
     let lt : c.args.n < length s.states = omega (arith, s.numbers) in
     let in_line : is_out (state_at m.states c.args.n) ≡ false = ap (λ (l : List State). is_out (state_at l c.args.n)) c.mark.ensures.states ∙ not_out_marked s.states c.args.n Waiting lt refl in
-    let h : Holds (vec_items m.order) qs m.states m.made = holds_redeclared (holds m) c.args.n c.args.declared.now (narrower c) qs (long c) c.redeclare-all.ensures.items in_line in
-    (m.few, (m.short, (m.room, (h.numbers, (h.known, (h.once, (h.left, (queued_stored qs m.states (vec_items m.order) h.queued, (h.turns, (c.refresh.ensures, tt))))))))))
+    let h : Holds (vec_items m.order) qs m.states m.made = holds_redeclared (holds m) c.args.n c.args.declared.now (narrower c) qs (long c) c.redeclare_all.ensures.items in_line in
+    record {
+      few = m.few;
+      short = m.short;
+      room = m.room;
+      numbers = h.numbers;
+      known = h.known;
+      once = h.once;
+      unfinished = h.left;
+      stored = queued_stored qs m.states (vec_items m.order) h.queued;
+      turns = h.turns;
+      flags = c.refresh.ensures;
+    }
 
 pub returns : goal.returns
 returns c =
     let f = (goal.at.returns c).After-refresh in
     let m = c.mark.new.self in
     let r = c.args.declared.now in
-    let qs = queues_of (vec_items c.redeclare-all.new.queues) in
+    let qs = queues_of (vec_items c.redeclare_all.new.queues) in
     let wide : length r ≡ length (queues_of (vec_items m.queues)) = omega (arith, c.requires.sized, c.mark.ensures.sized.0, m.queues.ok.0, length_queues (vec_items m.queues)) in
     record {
       line = c.mark.ensures.line;
-      tells = λ t u but is tells. telling_redeclared (holds m) c.args.n r (narrower f) qs (long f) c.redeclare-all.ensures.items t u wide but is (c.mark.ensures.tells t t (λ k ne. refl) refl tells);
-      sized = (c.redeclare-all.ensures.len ∙ c.mark.ensures.sized.0, c.mark.ensures.sized.1);
+      tells = λ t u but is tells. telling_redeclared (holds m) c.args.n r (narrower f) qs (long f) c.redeclare_all.ensures.items t u wide but is (c.mark.ensures.tells t t (λ k ne. refl) refl tells);
+      sized = (c.redeclare_all.ensures.len ∙ c.mark.ensures.sized.0, c.mark.ensures.sized.1);
     }

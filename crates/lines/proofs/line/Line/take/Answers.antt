@@ -50,12 +50,12 @@ returns-else-clear c =
       sized = (refl, refl);
     }
 
-pub returns-in-default : goal.returns-in-default
-returns-in-default c =
+pub returns-in_default : goal.returns-in_default
+returns-in_default c =
     let s = c.args.self.now in
     record {
       granted = λ t tells.
-          ap (λ (a : Bool). a && clear_in (queues_of (vec_items s.queues)) c.args.n) (sym (no_give (state_of s c.args.n) (λ e. c.in-default.not-Give (c.decide.ensures ∙ ap (λ (x : State). deed x Take) c.state.ensures ∙ e))))
+          ap (λ (a : Bool). a && clear_in (queues_of (vec_items s.queues)) c.args.n) (sym (no_give (state_of s c.args.n) (λ e. c.in_default.not-Give (c.decide.ensures ∙ ap (λ (x : State). deed x Take) c.state.ensures ∙ e))))
           ∙ takes s c.args.n t tells;
       found = λ t (e : false ≡ true). absurd (both_ways false refl e);
       line = λ t. refl;

@@ -5,25 +5,25 @@ use Rattle.std.proofs.lemmas.Option.{slice_get_read}
 use Rattle.working.specs.Steps.{Answered, ChildSized}
 use Rattle.tasks.specs.Rooms.{to_make}
 use Rattle.tasks.proofs.Backs.{put_back}
-use Rattle.tasks.proofs.Rooms.{to_make_set, step_makes, sizes_set, sizes_at, facts}
+use Rattle.tasks.proofs.Rooms.{to_make_set, step_makes, sizes_set, sizes_at}
 use Rattle.tasks.proofs.tasks.Tasks.advance.Given as given
 use Rattle.tasks.proofs.tasks.Tasks.advance.Goals as goal
-use Rattle.tasks.proofs.tasks.Tasks.advance.Goals.{After-index-mut, After-swap, at·step-stepped-requires, at·ghost-self, at·returns}
+use Rattle.tasks.proofs.tasks.Tasks.advance.Goals.{After-index_mut, After-swap}
 
-own_is : (g : given.Over) (c : After-index-mut g) → slice_get c.args.self.now.records.items c.args.i ≡ Some c.index-mut.result.now
-own_is g c = let v = c.args.self.now.records in slice_get_read v.items v.len c.args.i c.index-mut.result.now v.ok.0 c.requires c.index-mut.ensures.value
+own_is : (g : given.Over) (c : After-index_mut g) → slice_get c.args.self.now.records.items c.args.i ≡ Some c.index_mut.result.now
+own_is g c = let v = c.args.self.now.records in slice_get_read v.items v.len c.args.i c.index_mut.result.now v.ok.0 c.requires c.index_mut.ensures.value
 
 pub step-stepped-requires : goal.step-stepped-requires
 step-stepped-requires g c =
     let s = c.args.self.now in
-    let r = c.index-mut.result.now in
-    omega (arith, sizes_at s.records.items c.args.i r s.records.len s.store.len (own_is g (at·step-stepped-requires g c).After-index-mut) c.requires s.sized, c.deref-mut.ensures.len)
+    let r = c.index_mut.result.now in
+    omega (arith, sizes_at s.records.items c.args.i r s.records.len s.store.len (own_is g (goal.at.step-stepped-requires g c).After-index_mut) c.requires s.sized, c.deref_mut.ensures.len)
 
 works_are : (g : given.Over) (c : After-swap g) → c.swap.new.self.items ≡ set c.args.self.now.works.items c.args.i c.step-stepped.new.work
 works_are g c =
     let v = c.args.self.now.works in
-    let a = c.swap-remove-work in
-    let p = c.push-reserved in
+    let a = c.swap_remove-work in
+    let p = c.push_reserved in
     let x = c.swap in
     put_back v.items a.new.self.items p.new.self.items x.new.self.items c.args.i v.len (c.len-last.result - 1) c.step-stepped.new.work v.ok.0
     (omega (arith, c.len-last.ensures))
@@ -33,46 +33,54 @@ works_are g c =
     (omega (arith, x.ensures.len, x.new.self.ok.0, p.new.self.ok.0))
     x.ensures.by_index.0 x.ensures.by_index.1 x.ensures.by_index.2
 
-work_is : (g : given.Over) (c : After-swap g) → slice_get c.args.self.now.works.items c.args.i ≡ Some c.swap-remove-work.result
+work_is : (g : given.Over) (c : After-swap g) → slice_get c.args.self.now.works.items c.args.i ≡ Some c.swap_remove-work.result
 work_is g c =
     let v = c.args.self.now.works in
-    slice_get_read v.items v.len c.args.i c.swap-remove-work.result v.ok.0 (omega (arith, c.requires, c.args.self.now.level)) c.swap-remove-work.ensures.value
+    slice_get_read v.items v.len c.args.i c.swap_remove-work.result v.ok.0 (omega (arith, c.requires, c.args.self.now.level)) c.swap_remove-work.ensures.value
 
-pub invariant-of-self : goal.invariant-of-self
-invariant-of-self g c =
+pub invariant_of-self : goal.invariant_of-self
+invariant_of-self g c =
     let s = c.args.self.now in
     let i = c.args.i in
-    let w = c.swap-remove-work.result in
+    let w = c.swap_remove-work.result in
     let a = c.step-stepped in
-    let o = sizes_set s.records.items i c.index-mut.result.now a.new.self (own_is g (at·ghost-self g c).After-index-mut) a.ensures.objects in
-    let l : c.swap.new.self.len ≡ s.works.len = omega (arith, c.swap.ensures.len, c.push-reserved.ensures.len, c.swap-remove-work.ensures.len) in
+    let o = sizes_set s.records.items i c.index_mut.result.now a.new.self (own_is g (goal.at.invariant_of-self g c).After-index_mut) a.ensures.objects in
+    let l : c.swap.new.self.len ≡ s.works.len = omega (arith, c.swap.ensures.len, c.push_reserved.ensures.len, c.swap_remove-work.ensures.len) in
     let e = ap to_make (works_are g c) in
     let n = to_make_set s.works.items i w a.new.work (work_is g c) in
     let m = step_makes _ _ _ w a.new.work _ _ _ a.ensures.answer in
-    let room = c.swap.ensures.capacity ∙ c.push-reserved.ensures.capacity ∙ c.swap-remove-work.ensures.capacity in
-    facts s.objects (o ∙ s.sized) (l ∙ s.level) (omega (arith, s.few, e, n, m)) s.records_room (omega (arith, s.works_room, room)) s.frames_room
+    let room = c.swap.ensures.capacity ∙ c.push_reserved.ensures.capacity ∙ c.swap_remove-work.ensures.capacity in
+    record {
+      objects = s.objects;
+      sized = o ∙ s.sized;
+      level = l ∙ s.level;
+      few = omega (arith, s.few, e, n, m);
+      records_room = s.records_room;
+      works_room = omega (arith, s.works_room, room);
+      frames_room = s.frames_room;
+    }
 
 pub returns : goal.returns
 returns g c =
     let s = c.args.self.now in
     let k = g.K.ValueKind.kind c.args.kind.now in
-    let r = c.index-mut.result.now in
-    let w = c.swap-remove-work.result in
+    let r = c.index_mut.result.now in
+    let w = c.swap_remove-work.result in
     let a = c.step-stepped in
-    let e = with_items_is s.store a.new.store (a.auto.store ∙ c.deref-mut.ensures.len) in
-    let m = subst (λ (l : List ℕ). Answered k r w l a.result a.new.self a.new.work a.new.store) c.deref-mut.ensures.value a.ensures.answer in
+    let e = with_items_is s.store a.new.store (a.auto.store ∙ c.deref_mut.ensures.len) in
+    let m = subst (λ (l : List ℕ). Answered k r w l a.result a.new.self a.new.work a.new.store) c.deref_mut.ensures.value a.ensures.answer in
     record {
       own = r;
       work = w;
       own' = a.new.self;
       work' = a.new.work;
-      own_is = own_is g (at·returns g c).After-index-mut;
-      work_is = work_is g (at·returns g c).After-swap;
+      own_is = own_is g (goal.at.returns g c).After-index_mut;
+      work_is = work_is g (goal.at.returns g c).After-swap;
       answer = subst (λ (l : List ℕ). Answered k r w s.store.items a.result a.new.self a.new.work l) (sym e) m;
       records = refl;
-      works = works_are g (at·returns g c).After-swap;
+      works = works_are g (goal.at.returns g c).After-swap;
       count = refl;
       objects = refl;
       kept = a.ensures.kept;
-      sized = subst (λ (n : ℕ). ChildSized n a.result) (sizes_at s.records.items c.args.i r s.records.len s.store.len (own_is g (at·returns g c).After-index-mut) c.requires s.sized) a.ensures.sized;
+      sized = subst (λ (n : ℕ). ChildSized n a.result) (sizes_at s.records.items c.args.i r s.records.len s.store.len (own_is g (goal.at.returns g c).After-index_mut) c.requires s.sized) a.ensures.sized;
     }

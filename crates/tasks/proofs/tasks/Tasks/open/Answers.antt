@@ -13,43 +13,43 @@ use Rattle.working.specs.Records.{task_with, MainRecord}
 use Rattle.working.specs.Steps.{fresh_task}
 use Rattle.tasks.specs.Rooms.{to_make, sizes}
 use Rattle.tasks.specs.Views.{together}
-use Rattle.tasks.proofs.Rooms.{facts}
 use Rattle.tasks.proofs.tasks.Tasks.open.Given as given
 use Rattle.tasks.proofs.tasks.Tasks.open.Goals as goal
-use Rattle.tasks.proofs.tasks.Tasks.open.Goals.{In-ok-starting-words, at·ghost-tasks, at·add-requires}
+use Rattle.tasks.proofs.tasks.Tasks.open.Goals.{In_ok-starting_words}
 
 -- as many words as the card has
-words : (g : given.Over) (c : In-ok-starting-words g) → c.in-ok-starting-words.field-0.len ≡ c.args.card.now.words.len
+words : (g : given.Over) (c : In_ok-starting_words g) → c.in_ok-starting_words.field-0.len ≡ c.args.card.now.words.len
 unfolding starting_words
 words g c =
     let d = c.args.card.now in
-    let v = c.in-ok-starting-words.field-0 in
-    v.ok.0 ∙ ap length c.in-ok-starting-words.ensures ∙ length-map d.words.items (g.K.ValueKind.kind c.args.kind.now).literal ∙ sym d.words.ok.0
+    let v = c.in_ok-starting_words.field-0 in
+    v.ok.0 ∙ ap length c.in_ok-starting_words.ensures ∙ length-map d.words.items (g.K.ValueKind.kind c.args.kind.now).literal ∙ sym d.words.ok.0
 
-pub invariant-of-tasks : goal.invariant-of-tasks
+pub invariant_of-tasks : goal.invariant_of-tasks
 unfolding to_make sizes
-invariant-of-tasks g c =
-    let r = c.in-ok-with-capacity.ensures in
-    let w = c.in-ok-with-capacity-2.ensures in
-    let n = c.in-ok-starting-words.field-0.len in
-    facts
-    (omega (arith, c.args.card.now.objects, words g (at·ghost-tasks g c).In-ok-starting-words))
-    (ap sizes r.items ∙ sym (ap (λ (x : ℕ). replicate x n) r.len))
-    (w.len ∙ sym r.len)
-    (omega (arith, r.len, ap to_make w.items))
-    r.capacity
-    w.capacity
-    (omega (arith, c.in-ok-room.ensures))
+invariant_of-tasks g c =
+    let r = c.in_ok-with_capacity.ensures in
+    let w = c.in_ok-with_capacity-2.ensures in
+    let n = c.in_ok-starting_words.field-0.len in
+    record {
+      objects = omega (arith, c.args.card.now.objects, words g (goal.at.invariant_of-tasks g c).In_ok-starting_words);
+      sized = ap sizes r.items ∙ sym (ap (λ (x : ℕ). replicate x n) r.len);
+      level = w.len ∙ sym r.len;
+      few = omega (arith, r.len, ap to_make w.items);
+      records_room = r.capacity;
+      works_room = w.capacity;
+      frames_room = omega (arith, c.in_ok-room.ensures);
+    }
 
 pub add-requires : goal.add-requires
 unfolding to_make
 add-requires g c =
     let d = c.args.card.now in
-    let r = c.in-ok-with-capacity.ensures in
-    let w = c.in-ok-with-capacity-2.ensures in
+    let r = c.in_ok-with_capacity.ensures in
+    let w = c.in_ok-with_capacity-2.ensures in
     record {
       room = omega (arith, r.len, ap to_make w.items, d.tasks, ap task_bound c.main-2.ensures.body);
-      sized = c.main.ensures.objects ∙ sym d.words.ok.0 ∙ sym (words g (at·add-requires g c).In-ok-starting-words);
+      sized = c.main.ensures.objects ∙ sym d.words.ok.0 ∙ sym (words g (goal.at.add-requires g c).In_ok-starting_words);
     }
 
 alone : (k : Kind) (d : Card) (rs : List Record) (ws : List Work) (own : Record) (f : Fresh) → rs ≡ [] → MainRecord k d own → block_of f.body.now ≡ d.body → ranks_of f.place ≡ [] → together rs ws ++ fresh_task own f ∷ [] ≡ main k d ∷ []
@@ -64,6 +64,6 @@ pub returns : goal.returns
 returns g c =
     let a = c.add.ensures in
     let f = c.main-2.ensures in
-    let rs = c.in-ok-with-capacity.field-0.items in
-    let ws = c.in-ok-with-capacity-2.field-0.items in
-    (a.words ∙ c.in-ok-starting-words.ensures, a.tasks ∙ alone _ _ rs ws c.main.result c.main-2.result c.in-ok-with-capacity.ensures.items c.main.ensures f.body f.place)
+    let rs = c.in_ok-with_capacity.field-0.items in
+    let ws = c.in_ok-with_capacity-2.field-0.items in
+    (a.words ∙ c.in_ok-starting_words.ensures, a.tasks ∙ alone _ _ rs ws c.main.result c.main-2.result c.in_ok-with_capacity.ensures.items c.main.ensures f.body f.place)
