@@ -2,13 +2,13 @@ use Rattle.std.proofs.Common.{rules}
 use Rattle.loading.specs.Headers.{literal_form}
 use Rattle.loading.proofs.header.literal_words.Goals as goal
 
-pub returns-in-err-literal : goal.returns-in-err-literal
+pub returns-in_err-literal : goal.returns-in_err-literal
 unfolding literal_form
-returns-in-err-literal c = search rules
+returns-in_err-literal c = search rules
 
-pub returns-in-err-nothing : goal.returns-in-err-nothing
+pub returns-in_err-nothing : goal.returns-in_err-nothing
 unfolding literal_form
-returns-in-err-nothing c = search rules
+returns-in_err-nothing c = search rules
 
 pub returns : goal.returns
 unfolding literal_form

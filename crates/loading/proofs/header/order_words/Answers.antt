@@ -2,17 +2,17 @@ use Rattle.std.proofs.Common.{rules}
 use Rattle.loading.specs.Headers.{order_form}
 use Rattle.loading.proofs.header.order_words.Goals as goal
 
-pub returns-in-err-exactly : goal.returns-in-err-exactly
+pub returns-in_err-exactly : goal.returns-in_err-exactly
 unfolding order_form
-returns-in-err-exactly c = search rules
+returns-in_err-exactly c = search rules
 
-pub returns-in-err-order : goal.returns-in-err-order
+pub returns-in_err-order : goal.returns-in_err-order
 unfolding order_form
-returns-in-err-order c = search rules
+returns-in_err-order c = search rules
 
-pub returns-in-err-nothing : goal.returns-in-err-nothing
+pub returns-in_err-nothing : goal.returns-in_err-nothing
 unfolding order_form
-returns-in-err-nothing c = search rules
+returns-in_err-nothing c = search rules
 
 pub returns : goal.returns
 unfolding order_form

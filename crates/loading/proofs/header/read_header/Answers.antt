@@ -5,110 +5,110 @@ use Rattle.loading.specs.Headers.{bench_form, kind_form, order_form, objects_for
 use Rattle.loading.proofs.Literals.{line_ok, line_err, literals_ok, literals_err, fails_with}
 use Rattle.loading.proofs.header.read_header.Goals as goal
 
-pub returns-in-err-bench-line : goal.returns-in-err-bench-line
+pub returns-in_err-bench_line : goal.returns-in_err-bench_line
 unfolding read_header
-returns-in-err-bench-line c =
-    let p = err_from_is_err_and c.from-residual.result c.from-residual.ensures.1 in
+returns-in_err-bench_line c =
+    let p = err_from_is_err_and c.from_residual.result c.from_residual.ensures.1 in
     let n0 : text_number c.args.lines.now ≡ 1 = c.requires in
     rw (p.1, p.2) (record {
       value =
-          line_err bench_form _ _ _ _ n0 _ c.in-err-bench-line.ensures;
+          line_err bench_form _ _ _ _ n0 _ c.in_err-bench_line.ensures;
       number = tt;
       objects = tt;
       lines = tt;
     })
 
-pub returns-in-err-kind : goal.returns-in-err-kind
+pub returns-in_err-kind : goal.returns-in_err-kind
 unfolding read_header
-returns-in-err-kind c =
-    let p = err_from_is_err_and c.from-residual-in-err-kind.result c.from-residual-in-err-kind.ensures.1 in
+returns-in_err-kind c =
+    let p = err_from_is_err_and c.from_residual-in_err-kind.result c.from_residual-in_err-kind.ensures.1 in
     let n0 : text_number c.args.lines.now ≡ 1 = c.requires in
-    let n1 : text_number c.bench-line.new.lines ≡ 2 = omega (arith, c.in-ok-bench-line.ensures.1) in
+    let n1 : text_number c.bench_line.new.lines ≡ 2 = omega (arith, c.in_ok-bench_line.ensures.1) in
     rw (p.1, p.2) (record {
       value =
-          line_ok bench_form _ _ _ _ n0 _ _ c.in-ok-bench-line.ensures.0
-          ∙ line_err kind_form _ _ _ _ n1 _ c.in-err-kind.ensures;
+          line_ok bench_form _ _ _ _ n0 _ _ c.in_ok-bench_line.ensures.0
+          ∙ line_err kind_form _ _ _ _ n1 _ c.in_err-kind.ensures;
       number = tt;
       objects = tt;
       lines = tt;
     })
 
-pub returns-in-err-order : goal.returns-in-err-order
+pub returns-in_err-order : goal.returns-in_err-order
 unfolding read_header
-returns-in-err-order c =
-    let p = err_from_is_err_and c.from-residual-in-err-order.result c.from-residual-in-err-order.ensures.1 in
+returns-in_err-order c =
+    let p = err_from_is_err_and c.from_residual-in_err-order.result c.from_residual-in_err-order.ensures.1 in
     let n0 : text_number c.args.lines.now ≡ 1 = c.requires in
-    let n1 : text_number c.bench-line.new.lines ≡ 2 = omega (arith, c.in-ok-bench-line.ensures.1) in
-    let n2 : text_number c.kind-line.new.lines ≡ 3 = omega (arith, c.in-ok-kind.ensures.1) in
+    let n1 : text_number c.bench_line.new.lines ≡ 2 = omega (arith, c.in_ok-bench_line.ensures.1) in
+    let n2 : text_number c.kind_line.new.lines ≡ 3 = omega (arith, c.in_ok-kind.ensures.1) in
     rw (p.1, p.2) (record {
       value =
-          line_ok bench_form _ _ _ _ n0 _ _ c.in-ok-bench-line.ensures.0
-          ∙ line_ok kind_form _ _ _ _ n1 _ _ c.in-ok-kind.ensures.0
-          ∙ line_err order_form _ _ _ _ n2 _ c.in-err-order.ensures;
+          line_ok bench_form _ _ _ _ n0 _ _ c.in_ok-bench_line.ensures.0
+          ∙ line_ok kind_form _ _ _ _ n1 _ _ c.in_ok-kind.ensures.0
+          ∙ line_err order_form _ _ _ _ n2 _ c.in_err-order.ensures;
       number = tt;
       objects = tt;
       lines = tt;
     })
 
-pub returns-in-err-objects : goal.returns-in-err-objects
+pub returns-in_err-objects : goal.returns-in_err-objects
 unfolding read_header
-returns-in-err-objects c =
-    let p = err_from_is_err_and c.from-residual-in-err-objects.result c.from-residual-in-err-objects.ensures.1 in
+returns-in_err-objects c =
+    let p = err_from_is_err_and c.from_residual-in_err-objects.result c.from_residual-in_err-objects.ensures.1 in
     let n0 : text_number c.args.lines.now ≡ 1 = c.requires in
-    let n1 : text_number c.bench-line.new.lines ≡ 2 = omega (arith, c.in-ok-bench-line.ensures.1) in
-    let n2 : text_number c.kind-line.new.lines ≡ 3 = omega (arith, c.in-ok-kind.ensures.1) in
-    let n3 : text_number c.order-line.new.lines ≡ 4 = omega (arith, c.in-ok-order.ensures.1) in
+    let n1 : text_number c.bench_line.new.lines ≡ 2 = omega (arith, c.in_ok-bench_line.ensures.1) in
+    let n2 : text_number c.kind_line.new.lines ≡ 3 = omega (arith, c.in_ok-kind.ensures.1) in
+    let n3 : text_number c.order_line.new.lines ≡ 4 = omega (arith, c.in_ok-order.ensures.1) in
     rw (p.1, p.2) (record {
       value =
-          line_ok bench_form _ _ _ _ n0 _ _ c.in-ok-bench-line.ensures.0
-          ∙ line_ok kind_form _ _ _ _ n1 _ _ c.in-ok-kind.ensures.0
-          ∙ line_ok order_form _ _ _ _ n2 _ _ c.in-ok-order.ensures.0
-          ∙ line_err objects_form _ _ _ _ n3 _ c.in-err-objects.ensures.value;
+          line_ok bench_form _ _ _ _ n0 _ _ c.in_ok-bench_line.ensures.0
+          ∙ line_ok kind_form _ _ _ _ n1 _ _ c.in_ok-kind.ensures.0
+          ∙ line_ok order_form _ _ _ _ n2 _ _ c.in_ok-order.ensures.0
+          ∙ line_err objects_form _ _ _ _ n3 _ c.in_err-objects.ensures.value;
       number = tt;
       objects = tt;
       lines = tt;
     })
 
-pub returns-in-err-words : goal.returns-in-err-words
+pub returns-in_err-words : goal.returns-in_err-words
 unfolding read_header
-returns-in-err-words c =
-    let p = err_from_is_err_and c.from-residual-in-err-words.result c.from-residual-in-err-words.ensures.1 in
+returns-in_err-words c =
+    let p = err_from_is_err_and c.from_residual-in_err-words.result c.from_residual-in_err-words.ensures.1 in
     let n0 : text_number c.args.lines.now ≡ 1 = c.requires in
-    let n1 : text_number c.bench-line.new.lines ≡ 2 = omega (arith, c.in-ok-bench-line.ensures.1) in
-    let n2 : text_number c.kind-line.new.lines ≡ 3 = omega (arith, c.in-ok-kind.ensures.1) in
-    let n3 : text_number c.order-line.new.lines ≡ 4 = omega (arith, c.in-ok-order.ensures.1) in
-    let n4 : text_number c.objects-line.new.lines ≡ 5 = omega (arith, c.in-ok-objects.ensures.value.1) in
+    let n1 : text_number c.bench_line.new.lines ≡ 2 = omega (arith, c.in_ok-bench_line.ensures.1) in
+    let n2 : text_number c.kind_line.new.lines ≡ 3 = omega (arith, c.in_ok-kind.ensures.1) in
+    let n3 : text_number c.order_line.new.lines ≡ 4 = omega (arith, c.in_ok-order.ensures.1) in
+    let n4 : text_number c.objects_line.new.lines ≡ 5 = omega (arith, c.in_ok-objects.ensures.value.1) in
     rw (p.1, p.2) (record {
       value =
-          fails_with literals_of header_of _ _ _ c.read-literals.new.lines c.read-literals.new.lines (λ z h.
-          line_ok bench_form _ _ _ _ n0 _ _ c.in-ok-bench-line.ensures.0
-          ∙ line_ok kind_form _ _ _ _ n1 _ _ c.in-ok-kind.ensures.0
-          ∙ line_ok order_form _ _ _ _ n2 _ _ c.in-ok-order.ensures.0
-          ∙ line_ok objects_form _ _ _ _ n3 _ _ c.in-ok-objects.ensures.value.0
-          ∙ literals_err _ _ _ _ _ n4 _ h) c.in-err-words.ensures.value;
+          fails_with literals_of header_of _ _ _ c.read_literals.new.lines c.read_literals.new.lines (λ z h.
+          line_ok bench_form _ _ _ _ n0 _ _ c.in_ok-bench_line.ensures.0
+          ∙ line_ok kind_form _ _ _ _ n1 _ _ c.in_ok-kind.ensures.0
+          ∙ line_ok order_form _ _ _ _ n2 _ _ c.in_ok-order.ensures.0
+          ∙ line_ok objects_form _ _ _ _ n3 _ _ c.in_ok-objects.ensures.value.0
+          ∙ literals_err _ _ _ _ _ n4 _ h) c.in_err-words.ensures.value;
       number = tt;
       objects = tt;
       lines = tt;
     })
 
-pub returns-in-err-count : goal.returns-in-err-count
+pub returns-in_err-count : goal.returns-in_err-count
 unfolding read_header
-returns-in-err-count c =
-    let p = err_from_is_err_and c.from-residual-in-err-count.result c.from-residual-in-err-count.ensures.1 in
+returns-in_err-count c =
+    let p = err_from_is_err_and c.from_residual-in_err-count.result c.from_residual-in_err-count.ensures.1 in
     let n0 : text_number c.args.lines.now ≡ 1 = c.requires in
-    let n1 : text_number c.bench-line.new.lines ≡ 2 = omega (arith, c.in-ok-bench-line.ensures.1) in
-    let n2 : text_number c.kind-line.new.lines ≡ 3 = omega (arith, c.in-ok-kind.ensures.1) in
-    let n3 : text_number c.order-line.new.lines ≡ 4 = omega (arith, c.in-ok-order.ensures.1) in
-    let n4 : text_number c.objects-line.new.lines ≡ 5 = omega (arith, c.in-ok-objects.ensures.value.1) in
-    let n5 : text_number c.read-literals.new.lines ≡ 5 + c.in-ok-objects.objects = omega (arith, c.in-ok-words.ensures.number) in
+    let n1 : text_number c.bench_line.new.lines ≡ 2 = omega (arith, c.in_ok-bench_line.ensures.1) in
+    let n2 : text_number c.kind_line.new.lines ≡ 3 = omega (arith, c.in_ok-kind.ensures.1) in
+    let n3 : text_number c.order_line.new.lines ≡ 4 = omega (arith, c.in_ok-order.ensures.1) in
+    let n4 : text_number c.objects_line.new.lines ≡ 5 = omega (arith, c.in_ok-objects.ensures.value.1) in
+    let n5 : text_number c.read_literals.new.lines ≡ 5 + c.in_ok-objects.objects = omega (arith, c.in_ok-words.ensures.number) in
     rw (p.1, p.2) (record {
       value =
-          line_ok bench_form _ _ _ _ n0 _ _ c.in-ok-bench-line.ensures.0
-          ∙ line_ok kind_form _ _ _ _ n1 _ _ c.in-ok-kind.ensures.0
-          ∙ line_ok order_form _ _ _ _ n2 _ _ c.in-ok-order.ensures.0
-          ∙ line_ok objects_form _ _ _ _ n3 _ _ c.in-ok-objects.ensures.value.0
-          ∙ literals_ok _ _ _ _ _ n4 _ _ c.in-ok-words.ensures.value
-          ∙ line_err lines_form _ _ _ _ n5 _ c.in-err-count.ensures.value;
+          line_ok bench_form _ _ _ _ n0 _ _ c.in_ok-bench_line.ensures.0
+          ∙ line_ok kind_form _ _ _ _ n1 _ _ c.in_ok-kind.ensures.0
+          ∙ line_ok order_form _ _ _ _ n2 _ _ c.in_ok-order.ensures.0
+          ∙ line_ok objects_form _ _ _ _ n3 _ _ c.in_ok-objects.ensures.value.0
+          ∙ literals_ok _ _ _ _ _ n4 _ _ c.in_ok-words.ensures.value
+          ∙ line_err lines_form _ _ _ _ n5 _ c.in_err-count.ensures.value;
       number = tt;
       objects = tt;
       lines = tt;
@@ -118,21 +118,21 @@ pub returns : goal.returns
 unfolding read_header
 returns c =
     let n0 : text_number c.args.lines.now ≡ 1 = c.requires in
-    let n1 : text_number c.bench-line.new.lines ≡ 2 = omega (arith, c.in-ok-bench-line.ensures.1) in
-    let n2 : text_number c.kind-line.new.lines ≡ 3 = omega (arith, c.in-ok-kind.ensures.1) in
-    let n3 : text_number c.order-line.new.lines ≡ 4 = omega (arith, c.in-ok-order.ensures.1) in
-    let n4 : text_number c.objects-line.new.lines ≡ 5 = omega (arith, c.in-ok-objects.ensures.value.1) in
-    let n5 : text_number c.read-literals.new.lines ≡ 5 + c.in-ok-objects.objects = omega (arith, c.in-ok-words.ensures.number) in
-    let count = c.in-ok-words.ensures.count in
+    let n1 : text_number c.bench_line.new.lines ≡ 2 = omega (arith, c.in_ok-bench_line.ensures.1) in
+    let n2 : text_number c.kind_line.new.lines ≡ 3 = omega (arith, c.in_ok-kind.ensures.1) in
+    let n3 : text_number c.order_line.new.lines ≡ 4 = omega (arith, c.in_ok-order.ensures.1) in
+    let n4 : text_number c.objects_line.new.lines ≡ 5 = omega (arith, c.in_ok-objects.ensures.value.1) in
+    let n5 : text_number c.read_literals.new.lines ≡ 5 + c.in_ok-objects.objects = omega (arith, c.in_ok-words.ensures.number) in
+    let count = c.in_ok-words.ensures.count in
     record {
       value =
-          line_ok bench_form _ _ _ _ n0 _ _ c.in-ok-bench-line.ensures.0
-          ∙ line_ok kind_form _ _ _ _ n1 _ _ c.in-ok-kind.ensures.0
-          ∙ line_ok order_form _ _ _ _ n2 _ _ c.in-ok-order.ensures.0
-          ∙ line_ok objects_form _ _ _ _ n3 _ _ c.in-ok-objects.ensures.value.0
-          ∙ literals_ok _ _ _ _ _ n4 _ _ c.in-ok-words.ensures.value
-          ∙ line_ok lines_form _ _ _ _ n5 _ _ c.in-ok-count.ensures.value.0;
-      number = omega (arith, c.in-ok-count.ensures.value.1);
-      objects = (omega (arith, c.in-ok-objects.ensures.low), omega (arith, c.in-ok-objects.ensures.high));
-      lines = c.in-ok-count.ensures.high;
+          line_ok bench_form _ _ _ _ n0 _ _ c.in_ok-bench_line.ensures.0
+          ∙ line_ok kind_form _ _ _ _ n1 _ _ c.in_ok-kind.ensures.0
+          ∙ line_ok order_form _ _ _ _ n2 _ _ c.in_ok-order.ensures.0
+          ∙ line_ok objects_form _ _ _ _ n3 _ _ c.in_ok-objects.ensures.value.0
+          ∙ literals_ok _ _ _ _ _ n4 _ _ c.in_ok-words.ensures.value
+          ∙ line_ok lines_form _ _ _ _ n5 _ _ c.in_ok-count.ensures.value.0;
+      number = omega (arith, c.in_ok-count.ensures.value.1);
+      objects = (omega (arith, c.in_ok-objects.ensures.low), omega (arith, c.in_ok-objects.ensures.high));
+      lines = c.in_ok-count.ensures.high;
     }

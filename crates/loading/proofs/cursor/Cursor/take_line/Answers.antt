@@ -3,16 +3,16 @@ use Rattle.loading.specs.Texts.{text_line}
 use Rattle.loading.proofs.Sections.{after_shorter}
 use Rattle.loading.proofs.cursor.Cursor.take_line.Goals as goal
 
-pub returns-then-is-empty : goal.returns-then-is-empty
+pub returns-then-is_empty : goal.returns-then-is_empty
 unfolding text_line
-returns-then-is-empty c = search rules
+returns-then-is_empty c = search rules
 
-pub returns-in-default : goal.returns-in-default
+pub returns-in_default : goal.returns-in_default
 unfolding text_line
-returns-in-default c = search rules
+returns-in_default c = search rules
 
-pub invariant-of-self : goal.invariant-of-self
-invariant-of-self c = search (rules, after_shorter)
+pub invariant_of-self : goal.invariant_of-self
+invariant_of-self c = search (rules, after_shorter)
 
 pub returns : goal.returns
 unfolding text_line
