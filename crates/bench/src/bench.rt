@@ -5,7 +5,6 @@ ghost use Rattle.tasks.specs.Views.{store_of, tasks_of};
 ghost use Rattle.lines.specs.Lines.{object_count, line_of, Tells};
 ghost use Rattle.bench.specs.Tasks.{task_at};
 
-use kinds::ValueKind;
 use lines::Line;
 use tasks::Tasks;
 
@@ -16,7 +15,7 @@ use tasks::Tasks;
 // that the tasks in line can still make are at most 1,000,000, and there is room for any sheet. That a turn that is out
 // is of a ready task, and that there is room for every task, stands in the types of `Line` and `Tasks`.
 #[derive(Drop)]
-pub struct Bench<'c, K: ValueKind> {
+pub struct Bench<'c, K> {
     pub(crate) kind: &'c K,
     pub(crate) run: u16,
     pub(crate) tasks: Tasks<'c>,

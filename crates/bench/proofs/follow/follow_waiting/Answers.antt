@@ -21,5 +21,5 @@ returns-in-Went c =
       stays = λ _. refl;
     }
 
-pub returns-in-default : goal.returns-in-default
-returns-in-default c = record { followed = c.follow.ensures; stays = λ (e : false ≡ true). absurd (both_ways false refl e) }
+pub returns-in_default : goal.returns-in_default
+returns-in_default c = record { followed = c.follow.ensures; stays = λ (e : false ≡ true). absurd (both_ways false refl e) }

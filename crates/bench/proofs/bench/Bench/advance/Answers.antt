@@ -44,28 +44,23 @@ follow-requires g c =
 counts : (g : given.Over) (c : After-steps g) → c.steps.result ≡ steps_of (come_of c.unwrap-progress.result)
 counts g c = c.steps.ensures ∙ ap steps_of c.of-performed.ensures
 
-pub invariant-of-self : goal.invariant-of-self
-invariant-of-self g c =
+pub invariant_of-self : goal.invariant_of-self
+invariant_of-self g c =
     let b = c.args.self.now in
-    let f = (goal.at.invariant-of-self g c).After-unwrap-progress in
+    let f = (goal.at.invariant_of-self g c).After-unwrap-progress in
     let h = stepped g f in
     let s' = c.step.new.self in
     let l' = c.follow.new.line in
     let a = c.unwrap-progress.result in
     let here = turn_found b.line (task_at (tasks_of b.tasks)) c.args.n (out g f) in
-    let falls = out_falls _ c.args.n h.0 b.tasks s' b.line b.told b.numbered b.objects (live g f) a h.1 l' c.follow.ensures b.run b.steps b.closed Model.out here refl in (
-      still_told _ c.args.n h.0 b.tasks s' b.line b.told b.numbered b.objects (live g f) a h.1 l' c.follow.ensures,
-      (
-        still_numbered _ c.args.n h.0 b.tasks s' b.line b.told b.numbered b.objects (live g f) a h.1 l' c.follow.ensures,
-        (
-          still_sized _ c.args.n h.0 b.tasks s' b.line b.told b.numbered b.objects (live g f) a h.1 l' c.follow.ensures,
-          (
-            within_after b.steps c.steps.result _ _ (omega (arith, counts g (goal.at.invariant-of-self g c).After-steps, one_step a)) b.within falls,
-            (b.room, tt),
-          ),
-        ),
-      ),
-    )
+    let falls = out_falls _ c.args.n h.0 b.tasks s' b.line b.told b.numbered b.objects (live g f) a h.1 l' c.follow.ensures b.run b.steps b.closed Model.out here refl in
+    record {
+      told = still_told _ c.args.n h.0 b.tasks s' b.line b.told b.numbered b.objects (live g f) a h.1 l' c.follow.ensures;
+      numbered = still_numbered _ c.args.n h.0 b.tasks s' b.line b.told b.numbered b.objects (live g f) a h.1 l' c.follow.ensures;
+      objects = still_sized _ c.args.n h.0 b.tasks s' b.line b.told b.numbered b.objects (live g f) a h.1 l' c.follow.ensures;
+      within = within_after b.steps c.steps.result _ _ (omega (arith, counts g (goal.at.invariant_of-self g c).After-steps, one_step a)) b.within falls;
+      room = b.room;
+    }
 
 pub returns : goal.returns
 returns g c =

@@ -16,7 +16,7 @@ use Rattle.bench.specs.Views.{bench_of, going_of}
 use Rattle.bench.proofs.Histories.{call_leads_on, settled_agrees}
 use Rattle.bench.proofs.Calls.{foreign, refused_own, unless_false, unless_true}
 use Rattle.bench.proofs.bench.Bench.close.Given as given
-use Rattle.bench.proofs.bench.Bench.close.Goals.{After-any-out}
+use Rattle.bench.proofs.bench.Bench.close.Goals.{After-any_out}
 use Rattle.bench.proofs.bench.Bench.close.Goals as goal
 
 pub returns-then-not-admits : goal.returns-then-not-admits
@@ -32,14 +32,14 @@ returns-then-not-admits g c =
     }
 
 -- the test is the model's
-can : (g : given.Over) (c : After-any-out g) → (c.is-settled.result && not c.any-out.result) ≡ can_close (bench_of c.args.self.now)
+can : (g : given.Over) (c : After-any_out g) → (c.is_settled.result && not c.any_out.result) ≡ can_close (bench_of c.args.self.now)
 unfolding bench settled can_close
-can g c = let t = task_at (tasks_of c.args.self.now.tasks) in ap₂ (λ (x y : Bool). x && not y) (c.is-settled.ensures t) (c.any-out.ensures t)
+can g c = let t = task_at (tasks_of c.args.self.now.tasks) in ap₂ (λ (x y : Bool). x && not y) (c.is_settled.ensures t) (c.any_out.ensures t)
 
 pub returns-then-not-rests : goal.returns-then-not-rests
 unfolding fits own_refusal
 returns-then-not-rests g c =
-    let no = sym (can g (goal.at.returns-then-not-rests g c).After-any-out) ∙ c.if-not-rests.true in
+    let no = sym (can g (goal.at.returns-then-not-rests g c).After-any_out) ∙ c.if-not-rests.true in
     record {
       answers = refused_own _ (close (going_of c.args.going)) (bench_of c.args.self.now) Unsettled (sym c.admits.ensures ∙ c.if-not-admits.false) (unless_false _ Unsettled no);
       back = refl;
@@ -53,7 +53,7 @@ pub returns : goal.returns
 unfolding bench settled can_close shut fits fits_going fits_closed own_refusal granted effect
 returns g c =
     let b = c.args.self.now in
-    let yes = sym (can g (goal.at.returns g c).After-any-out) ∙ c.if-not-rests.false in
+    let yes = sym (can g (goal.at.returns g c).After-any_out) ∙ c.if-not-rests.false in
     let fit = sym c.admits.ensures ∙ c.if-not-admits.false in
     let own : c.args.going.run ≡ b.run = eqb-true c.args.going.run b.run (and_parts (eqb c.args.going.run b.run) (not b.closed) fit).0 in
     let a : answer _ (close (going_of c.args.going)) (bench_of b) ≡ (Answer.closed (Call.closed_state c.args.going.run), shut (bench_of b))

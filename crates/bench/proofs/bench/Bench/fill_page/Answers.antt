@@ -32,8 +32,8 @@ returns-in-None g c =
     let t = task_at (tasks_of b.tasks) in
     let k = g.K.ValueKind.kind b.kind.now in
     filled
-    (appended c.clear.new.self c.append-run.new.out _ c.append-run.result c.unwrap.result c.unwrap.ensures c.append-run.ensures.appends c.clear.ensures.items)
-    (c.append-run.ensures.short (omega (arith, ap length c.words.ensures, b.tasks.store.ok.0, b.tasks.objects)))
+    (appended c.clear.new.self c.append_run.new.out _ c.append_run.result c.unwrap.result c.unwrap.ensures c.append_run.ensures.appends c.clear.ensures.items)
+    (c.append_run.ensures.short (omega (arith, ap length c.words.ensures, b.tasks.store.ok.0, b.tasks.objects)))
     (ap₂ (λ (n : ℕ) (ws : List ℕ). run_sheet k n b.steps ws) (c.from-made.ensures ∙ c.count.ensures.number) c.words.ensures
     ∙ sym (sheet_words k b.run (store_of b.tasks) (line_of b.line t) (length (tasks_of b.tasks)) b.steps b.closed (c.in-None.ensures t)))
     refl refl
@@ -47,19 +47,19 @@ returns-in-Stuck g c =
     let k = g.K.ValueKind.kind b.kind.now in
     let w = c.in-Some.ensures t in
     filled
-    (appended c.clear.new.self c.append-fault.new.out _ c.append-fault.result c.unwrap-in-Stuck.result c.unwrap-in-Stuck.ensures c.append-fault.ensures.appends c.clear.ensures.items)
-    (c.append-fault.ensures.short (simp length-take (omega (arith, p.short))))
+    (appended c.clear.new.self c.append_fault.new.out _ c.append_fault.result c.unwrap-in-Stuck.result c.unwrap-in-Stuck.ensures c.append_fault.ensures.appends c.clear.ensures.items)
+    (c.append_fault.ensures.short (simp length-take (omega (arith, p.short))))
     (ap (fault_sheet c.in-Stuck.fault c.in-Stuck.line) (place_is (tasks_of b.tasks) n c.place.result c.place.ensures (made g (goal.at.returns-in-Stuck g c).In-Stuck) p c.unwrap-place.ensures)
     ∙ sym (sheet_fault k b.run (store_of b.tasks) (line_of b.line t) (length (tasks_of b.tasks)) b.steps b.closed n (state_of b.line n) (t n) w.0 w.1 c.in-Stuck.fault c.in-Stuck.line (sym c.in-Stuck.ensures)))
     refl refl
 
-pub returns-in-default : goal.returns-in-default
-returns-in-default g c =
+pub returns-in_default : goal.returns-in_default
+returns-in_default g c =
     let b = c.args.self.now in
     let t = task_at (tasks_of b.tasks) in
     let n = c.in-Some.n in
     let k = g.K.ValueKind.kind b.kind.now in
     let w = c.in-Some.ensures t in
     filled c.clear.ensures.items (omega arith)
-    (sym (sheet_none k b.run (store_of b.tasks) (line_of b.line t) (length (tasks_of b.tasks)) b.steps b.closed n (state_of b.line n) (t n) w.0 w.1 (λ f l e. c.in-default.not-Stuck f l (c.state.ensures ∙ e))))
+    (sym (sheet_none k b.run (store_of b.tasks) (line_of b.line t) (length (tasks_of b.tasks)) b.steps b.closed n (state_of b.line n) (t n) w.0 w.1 (λ f l e. c.in_default.not-Stuck f l (c.state.ensures ∙ e))))
     refl refl

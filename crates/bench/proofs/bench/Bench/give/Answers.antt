@@ -73,7 +73,7 @@ bounds-offer-place g c = omega (arith, simp length-take at (below g c), c.offer-
 
 module _ (g : given.Over) (c : After-take g) where
   abbrev picking : After-unwrap-place g
-  picking = (goal.at.invariant-of-self g c).After-unwrap-place
+  picking = (goal.at.invariant_of-self g c).After-unwrap-place
 
   abbrev at : ℕ → Task
   at = task_at (tasks_of c.args.self.now.tasks)
@@ -91,14 +91,20 @@ module _ (g : given.Over) (c : After-take g) where
   unfolding bench
   yes = c.take.ensures.granted at c.args.self.now.told ∙ can_taken
 
-pub invariant-of-self : goal.invariant-of-self
+pub invariant_of-self : goal.invariant_of-self
 unfolding weight
-invariant-of-self g c =
+invariant_of-self g c =
     let b = c.args.self.now in
     let e = c.take.ensures in
     let n = get_or c.offer-count.new.into c.unwrap-place.result 0 in
     let same = put_left b.run (store_of b.tasks) (line_of b.line (at g c)) (line_of c.take.new.self (at g c)) 0 0 true n (at g c n) waiting out c.take.result (yes g c) (e.found (at g c) (yes g c)) (e.line (at g c)) refl in
-    (e.tells (at g c) b.told, (e.sized.1 ∙ b.numbered, (e.sized.0 ∙ b.objects, (omega (arith, b.within, same), (b.room, tt)))))
+    record {
+      told = e.tells (at g c) b.told;
+      numbered = e.sized.1 ∙ b.numbered;
+      objects = e.sized.0 ∙ b.objects;
+      within = omega (arith, b.within, same);
+      room = b.room;
+    }
 
 pub returns : goal.returns
 returns g c =

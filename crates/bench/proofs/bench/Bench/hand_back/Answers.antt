@@ -16,7 +16,7 @@ use Rattle.bench.specs.Views.{bench_of, turn_of}
 use Rattle.bench.proofs.Histories.{call_leads_on}
 use Rattle.bench.proofs.Calls.{foreign, put_is, put_left}
 use Rattle.bench.proofs.bench.Bench.hand_back.Given as given
-use Rattle.bench.proofs.bench.Bench.hand_back.Goals.{After-hand-back}
+use Rattle.bench.proofs.bench.Bench.hand_back.Goals.{After-hand_back}
 use Rattle.bench.proofs.bench.Bench.hand_back.Goals as goal
 
 pub returns-then-not-knows : goal.returns-then-not-knows
@@ -29,35 +29,41 @@ returns-then-not-knows g c =
       kind = refl;
     }
 
-module _ (g : given.Over) (c : After-hand-back g) where
+module _ (g : given.Over) (c : After-hand_back g) where
   known : fits_turn (turn_of c.args.turn) (bench_of c.args.self.now) ≡ true
   known = sym c.knows.ensures ∙ c.if-not-knows.false
 
   -- the turn was out
-  yes : c.hand-back.result ≡ true
+  yes : c.hand_back.result ≡ true
   unfolding bench fits_turn
-  yes = c.hand-back.ensures.granted (task_at (tasks_of c.args.self.now.tasks)) ∙ (and_parts (eqb c.args.turn.run c.args.self.now.run) _ known).1
+  yes = c.hand_back.ensures.granted (task_at (tasks_of c.args.self.now.tasks)) ∙ (and_parts (eqb c.args.turn.run c.args.self.now.run) _ known).1
 
-pub invariant-of-self : goal.invariant-of-self
+pub invariant_of-self : goal.invariant_of-self
 unfolding weight
-invariant-of-self g c =
+invariant_of-self g c =
     let b = c.args.self.now in
-    let e = c.hand-back.ensures in
+    let e = c.hand_back.ensures in
     let t = task_at (tasks_of b.tasks) in
     let n = c.args.turn.task in
-    let same = put_left b.run (store_of b.tasks) (line_of b.line t) (line_of c.hand-back.new.self t) 0 0 true n (t n) out waiting c.hand-back.result (yes g c) (e.found t (yes g c)) (e.line t) refl in
-    (e.tells t b.told, (e.sized.1 ∙ b.numbered, (e.sized.0 ∙ b.objects, (omega (arith, b.within, same), (b.room, tt)))))
+    let same = put_left b.run (store_of b.tasks) (line_of b.line t) (line_of c.hand_back.new.self t) 0 0 true n (t n) out waiting c.hand_back.result (yes g c) (e.found t (yes g c)) (e.line t) refl in
+    record {
+      told = e.tells t b.told;
+      numbered = e.sized.1 ∙ b.numbered;
+      objects = e.sized.0 ∙ b.objects;
+      within = omega (arith, b.within, same);
+      room = b.room;
+    }
 
 pub returns : goal.returns
 unfolding fits own_refusal granted effect
 returns g c =
-    let f = (goal.at.returns g c).After-hand-back in
+    let f = (goal.at.returns g c).After-hand_back in
     let b = c.args.self.now in
-    let e = c.hand-back.ensures in
+    let e = c.hand_back.ensures in
     let t = task_at (tasks_of b.tasks) in
     let n = c.args.turn.task in
-    let l' = line_of c.hand-back.new.self t in
-    let is = put_is b.run (store_of b.tasks) (line_of b.line t) l' (length (tasks_of b.tasks)) b.steps b.closed n (t n) out waiting c.hand-back.result (yes g f) (e.found t (yes g f)) (e.line t) in
+    let l' = line_of c.hand_back.new.self t in
+    let is = put_is b.run (store_of b.tasks) (line_of b.line t) l' (length (tasks_of b.tasks)) b.steps b.closed n (t n) out waiting c.hand_back.result (yes g f) (e.found t (yes g f)) (e.line t) in
     let a : answer _ (hand_back (turn_of c.args.turn)) (bench_of b) ≡ (Answer.returned, bench b.run (store_of b.tasks) l' (length (tasks_of b.tasks)) b.steps b.closed)
     = answer_granted _ (bench_of b) (hand_back (turn_of c.args.turn)) (known g f) refl ∙ ap {B = Answer × Model.Bench} (λ (v : Model.Bench). (Answer.returned, v)) (sym is) in
     record {

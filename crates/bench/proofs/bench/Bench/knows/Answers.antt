@@ -7,4 +7,4 @@ use Rattle.bench.proofs.bench.Bench.knows.Goals as goal
 
 pub returns : goal.returns
 unfolding bench fits_turn
-returns g c = ap (λ (x : Bool). eqb c.args.turn.now.run c.args.self.now.run && x) (c.has-turn.ensures.turn (task_at (tasks_of c.args.self.now.tasks)))
+returns g c = ap (λ (x : Bool). eqb c.args.turn.now.run c.args.self.now.run && x) (c.has_turn.ensures.turn (task_at (tasks_of c.args.self.now.tasks)))

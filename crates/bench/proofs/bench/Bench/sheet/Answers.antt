@@ -12,18 +12,18 @@ use Rattle.bench.specs.Views.{bench_of, closed_of}
 use Rattle.bench.proofs.Histories.{history_kept}
 use Rattle.bench.proofs.Calls.{foreign_refusal, own_refusal_is, unless_false, unless_true, sheet_refused, sheet_granted}
 use Rattle.bench.proofs.bench.Bench.sheet.Given as given
-use Rattle.bench.proofs.bench.Bench.sheet.Goals.{After-len-length, After-copy-from-slice}
+use Rattle.bench.proofs.bench.Bench.sheet.Goals.{After-len-length, After-copy_from_slice}
 use Rattle.bench.proofs.bench.Bench.sheet.Goals as goal
 
-pub returns-then-not-has-closed : goal.returns-then-not-has-closed
+pub returns-then-not-has_closed : goal.returns-then-not-has_closed
 unfolding fits
-returns-then-not-has-closed g c =
+returns-then-not-has_closed g c =
     let b = bench_of c.args.self.now in
     let z = closed_of c.args.closed in
     record {
-      answers = sheet_refused _ z c.args.buffer.now b _ (foreign_refusal _ (sheet z c.args.buffer.now) b (sym c.has-closed.ensures ∙ c.if-not-has-closed.true));
+      answers = sheet_refused _ z c.args.buffer.now b _ (foreign_refusal _ (sheet z c.args.buffer.now) b (sym c.has_closed.ensures ∙ c.if-not-has_closed.true));
       back = refl;
-      short = λ e _. absurd (both_ways _ (sym c.has-closed.ensures ∙ c.if-not-has-closed.true) e);
+      short = λ e _. absurd (both_ways _ (sym c.has_closed.ensures ∙ c.if-not-has_closed.true) e);
       serial = tt;
       bench = refl;
       kind = refl;
@@ -31,7 +31,7 @@ returns-then-not-has-closed g c =
 
 module _ (g : given.Over) (c : After-len-length g) where
   long : c.len-length.result ≡ length (bench_sheet (g.K.ValueKind.kind c.args.self.now.kind.now) (bench_of c.args.self.now))
-  long = c.len-length.ensures ∙ c.fill-page.new.self.page.ok.0 ∙ ap length c.fill-page.ensures.sheet
+  long = c.len-length.ensures ∙ c.fill_page.new.self.page.ok.0 ∙ ap length c.fill_page.ensures.sheet
 
 pub returns-then-length-buffer : goal.returns-then-length-buffer
 unfolding fits own_refusal too_long
@@ -42,12 +42,12 @@ returns-then-length-buffer g c =
     let buffer = c.args.buffer.now in
     let short = lt-leb (length (bench_sheet k b)) (length buffer) (omega (arith, long g (goal.at.returns-then-length-buffer g c).After-len-length, c.if-length-buffer.true)) in
     record {
-      answers = sheet_refused k z buffer b BufferTooShort (own_refusal_is k (sheet z buffer) b (some BufferTooShort) (sym c.has-closed.ensures ∙ c.if-not-has-closed.false) (unless_false _ BufferTooShort short));
+      answers = sheet_refused k z buffer b BufferTooShort (own_refusal_is k (sheet z buffer) b (some BufferTooShort) (sym c.has_closed.ensures ∙ c.if-not-has_closed.false) (unless_false _ BufferTooShort short));
       back = refl;
-      short = λ _ room. absurd (omega (arith, room, long g (goal.at.returns-then-length-buffer g c).After-len-length, c.if-length-buffer.true, c.fill-page.ensures.short));
+      short = λ _ room. absurd (omega (arith, room, long g (goal.at.returns-then-length-buffer g c).After-len-length, c.if-length-buffer.true, c.fill_page.ensures.short));
       serial = tt;
-      bench = c.fill-page.ensures.bench;
-      kind = c.fill-page.ensures.kind;
+      bench = c.fill_page.ensures.bench;
+      kind = c.fill_page.ensures.kind;
     }
 
 pub returns : goal.returns
@@ -61,8 +61,8 @@ returns g c =
     let n = c.len-length.result in
     let l = long g (goal.at.returns g c).After-len-length in
     let room = le-leb (length (bench_sheet k b)) (length buffer) (omega (arith, l, c.if-length-buffer.false)) in
-    let fit = sym c.has-closed.ensures ∙ c.if-not-has-closed.false in
-    let text : c.copy-from-slice.new.self ≡ bench_sheet k b = c.copy-from-slice.ensures.after ∙ c.deref.ensures.value ∙ c.fill-page.ensures.sheet in
+    let fit = sym c.has_closed.ensures ∙ c.if-not-has_closed.false in
+    let text : c.copy_from_slice.new.self ≡ bench_sheet k b = c.copy_from_slice.ensures.after ∙ c.deref.ensures.value ∙ c.fill_page.ensures.sheet in
     let shut = (and_parts (eqb c.args.closed.run c.args.self.now.run) c.args.self.now.closed fit).1 in
     record {
       answers =
@@ -74,6 +74,6 @@ returns g c =
           let kept = history_kept k card r b law h in
           let same = (kept.agrees (kept.closed_rests shut).settled_yet).same_sheet in
           (l ∙ ap length same, ap₂ (λ (i : ℕ) (xs : List ℕ). xs ++ drop i buffer) (l ∙ ap length same) (text ∙ same));
-      bench = c.fill-page.ensures.bench;
-      kind = c.fill-page.ensures.kind;
+      bench = c.fill_page.ensures.bench;
+      kind = c.fill_page.ensures.kind;
     }

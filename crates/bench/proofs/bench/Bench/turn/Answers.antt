@@ -26,7 +26,7 @@ use Rattle.bench.proofs.bench.Bench.turn.Goals as goal
 
 -- some task is offered
 offers_some : (b : Model.Bench) (ns : List ℕ) → ns ≡ offer b → settled b ≡ false → AtWork b → 0 < length ns
-offers_some b ns e u w = omega (arith, ap length e, unsettled_offers b u w.none-out)
+offers_some b ns e u w = omega (arith, ap length e, unsettled_offers b u w.none_out)
 
 pub unwrap-place-requires : goal.unwrap-place-requires
 unwrap-place-requires g c =
@@ -73,11 +73,11 @@ unwrap-progress-requires g c =
 stepped : (g : given.Over) (c : After-unwrap-progress g) → (t : Task) × StepOf (g.K.ValueKind.kind c.args.self.now.kind.now) (get_or c.args.offered.now c.unwrap-place.result 0) t c.args.self.now.tasks c.unwrap-progress.result c.step.new.self
 stepped g c = step_of _ (get_or c.args.offered.now c.unwrap-place.result 0) c.args.self.now.tasks c.step.new.self c.step.result c.unwrap-progress.result c.unwrap-progress.ensures c.step.ensures
 
-pub follow-waiting-stays-requires : goal.follow-waiting-stays-requires
-follow-waiting-stays-requires g c =
+pub follow_waiting-stays-requires : goal.follow_waiting-stays-requires
+follow_waiting-stays-requires g c =
     let b = c.args.self.now in
-    let p = (goal.at.follow-waiting-stays-requires g c).After-unwrap-place in
-    let h = stepped g (goal.at.follow-waiting-stays-requires g c).After-unwrap-progress in
+    let p = (goal.at.follow_waiting-stays-requires g c).After-unwrap-place in
+    let h = stepped g (goal.at.follow_waiting-stays-requires g c).After-unwrap-progress in
     record {
       fits = fits_line _ (n g p) h.0 b.tasks c.step.new.self b.line b.told b.numbered b.objects (take_live b.line (at g p) (n g p) b.told (can g p)) c.unwrap-progress.result h.1;
       waits = take_waits b.line (at g p) (n g p) b.told (can g p);
@@ -85,16 +85,16 @@ follow-waiting-stays-requires g c =
 
 module _ (g : given.Over) (c : After-steps g) where
   abbrev placed : After-unwrap-place g
-  placed = (goal.at.invariant-of-self g c).After-unwrap-place
+  placed = (goal.at.invariant_of-self g c).After-unwrap-place
 
   abbrev h : (t : Task) × StepOf (g.K.ValueKind.kind c.args.self.now.kind.now) (get_or c.args.offered.now c.unwrap-place.result 0) t c.args.self.now.tasks c.unwrap-progress.result c.step.new.self
-  h = stepped g (goal.at.invariant-of-self g c).After-unwrap-progress
+  h = stepped g (goal.at.invariant_of-self g c).After-unwrap-progress
 
   abbrev came : Model.Bench
   came =
       let b = c.args.self.now in
       let s' = c.step.new.self in
-      bench b.run (store_of s') (line_of c.follow-waiting-stays.new.line (task_at (tasks_of s'))) (length (tasks_of s')) (b.steps + c.steps.result) b.closed
+      bench b.run (store_of s') (line_of c.follow_waiting-stays.new.line (task_at (tasks_of s'))) (length (tasks_of s')) (b.steps + c.steps.result) b.closed
 
   counts : c.steps.result ≡ steps_of (come_of c.unwrap-progress.result)
   counts = c.steps.ensures ∙ ap steps_of c.of.ensures
@@ -104,9 +104,9 @@ module _ (g : given.Over) (c : After-steps g) where
   performs =
       let b = c.args.self.now in
       let s' = c.step.new.self in
-      let l' = c.follow-waiting-stays.new.line in
+      let l' = c.follow_waiting-stays.new.line in
       ap (λ (i : ℕ). bench b.run (store_of s') (line_of l' (task_at (tasks_of s'))) (length (tasks_of s')) (b.steps + i) b.closed) counts
-      ∙ turn_steps _ (n g placed) h.0 b.tasks s' b.line b.told b.numbered b.objects (take_live b.line (at g placed) (n g placed) b.told (can g placed)) c.unwrap-progress.result h.1 l' c.follow-waiting-stays.ensures.followed
+      ∙ turn_steps _ (n g placed) h.0 b.tasks s' b.line b.told b.numbered b.objects (take_live b.line (at g placed) (n g placed) b.told (can g placed)) c.unwrap-progress.result h.1 l' c.follow_waiting-stays.ensures.followed
       b.run b.steps b.closed waiting (take_found b.line (at g placed) (n g placed) b.told (can g placed))
 
   -- by the model's own words
@@ -114,28 +114,26 @@ module _ (g : given.Over) (c : After-steps g) where
   unfolding bench
   can_model = can g placed
 
-  falls : left (line_of c.follow-waiting-stays.new.line (task_at (tasks_of c.step.new.self))) < left (line_of c.args.self.now.line (at g placed))
+  falls : left (line_of c.follow_waiting-stays.new.line (task_at (tasks_of c.step.new.self))) < left (line_of c.args.self.now.line (at g placed))
   unfolding bench
   falls = turned_falls (choice g placed) (bench_of c.args.self.now) (number g placed) can_model _ came performs c.requires.at_work
 
-pub invariant-of-self : goal.invariant-of-self
-invariant-of-self g c =
+pub invariant_of-self : goal.invariant_of-self
+invariant_of-self g c =
     let b = c.args.self.now in
     let p = placed g c in
     let s' = c.step.new.self in
-    let l' = c.follow-waiting-stays.new.line in
+    let l' = c.follow_waiting-stays.new.line in
     let a = c.unwrap-progress.result in
     let live = take_live b.line (at g p) (n g p) b.told (can g p) in
-    let f = c.follow-waiting-stays.ensures.followed in (
-      still_told _ (n g p) (h g c).0 b.tasks s' b.line b.told b.numbered b.objects live a (h g c).1 l' f,
-      (
-        still_numbered _ (n g p) (h g c).0 b.tasks s' b.line b.told b.numbered b.objects live a (h g c).1 l' f,
-        (
-          still_sized _ (n g p) (h g c).0 b.tasks s' b.line b.told b.numbered b.objects live a (h g c).1 l' f,
-          (within_after b.steps c.steps.result _ _ (omega (arith, counts g c, one_step a)) b.within (falls g c), (b.room, tt)),
-        ),
-      ),
-    )
+    let f = c.follow_waiting-stays.ensures.followed in
+    record {
+      told = still_told _ (n g p) (h g c).0 b.tasks s' b.line b.told b.numbered b.objects live a (h g c).1 l' f;
+      numbered = still_numbered _ (n g p) (h g c).0 b.tasks s' b.line b.told b.numbered b.objects live a (h g c).1 l' f;
+      objects = still_sized _ (n g p) (h g c).0 b.tasks s' b.line b.told b.numbered b.objects live a (h g c).1 l' f;
+      within = within_after b.steps c.steps.result _ _ (omega (arith, counts g c, one_step a)) b.within (falls g c);
+      room = b.room;
+    }
 
 pub returns : goal.returns
 returns g c =
@@ -152,5 +150,5 @@ returns g c =
         run = turned_run choose b (number g p) (can_model g f) _ (came g f) (performs g f) c.requires.at_work;
         kind = refl;
       };
-      stays = c.follow-waiting-stays.ensures.stays;
+      stays = c.follow_waiting-stays.ensures.stays;
     }
