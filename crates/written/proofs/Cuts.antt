@@ -52,11 +52,11 @@ pub line_back : (s : List ℕ) (n : ℕ) → IfOk (text_line s n) (λ b. s ≡ l
 unfolding text_line
 line_back s n = go (eqb (length s) 0)
   where
-    ended : (t : Bool) → has 10 s ≡ t → IfOk {Y = LineFault} (cond t (Ok (before 10 s)) (Err (Unended n))) (λ b. s ≡ line (words b) (after 10 s))
+    ended : (t : Bool) → has 10 s ≡ t → IfOk {E = LineFault} (cond t (Ok (before 10 s)) (Err (Unended n))) (λ b. s ≡ line (words b) (after 10 s))
     ended true h = cut_back s h ∙ ap (λ t. t ++ 10 ∷ after 10 s) (words_back (before 10 s))
     ended false h = tt
 
-    go : (t : Bool) → IfOk {Y = LineFault} (cond t (Err (Missing n)) (cond (has 10 s) (Ok (before 10 s)) (Err (Unended n)))) (λ b. s ≡ line (words b) (after 10 s))
+    go : (t : Bool) → IfOk {E = LineFault} (cond t (Err (Missing n)) (cond (has 10 s) (Ok (before 10 s)) (Err (Unended n)))) (λ b. s ≡ line (words b) (after 10 s))
     go true = tt
     go false = ended (has 10 s) refl
 
