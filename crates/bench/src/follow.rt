@@ -16,10 +16,10 @@ pub(crate) fn follow(line: &mut Line, tasks: &Tasks, n: u8, progress: Progress)
     match progress {
         Progress::Fault(fault, at) => line.stick(n, fault, at),
         Progress::Went => line.wait(n),
-        Progress::Amended => line.redeclare(n, tasks.declared(n)),
+        Progress::Amended => line.redeclare_as(n, tasks.declared(n)),
         Progress::Finished => line.finish(n),
         Progress::Made(child) => {
-            line.enter(n, tasks.declared(child));
+            line.enter_declaring(n, tasks.declared(child));
         }
     }
 }

@@ -1,6 +1,7 @@
 // What changes the line and the queues: a line is made, a task enters, declares otherwise, or leaves.
-ghost use Rattle.std.specs.Prelude.{◌≡◌, ℕ, ◌+◌, ◌<◌, false, [], ◌∷◌, length, replicate, IfOk, vec_len};
+ghost use Rattle.std.specs.Prelude.{◌≡◌, ℕ, ◌+◌, ◌<◌, ◌≤◌, false, [], ◌∷◌, length, replicate, IfOk, vec_len};
 ghost use Rattle.working.specs.Tasks.{Task};
+ghost use Rattle.working.specs.Records.{declared_of};
 ghost use Rattle.runs.specs.Lines as Model;
 ghost use Rattle.lines.specs.States.{is_finished};
 ghost use Rattle.lines.specs.Stored.{queues_of};
@@ -13,7 +14,7 @@ use crate::queue::Queue;
 use crate::queues::{enter_all, leave_all, redeclare_all, refresh};
 use crate::state::State;
 use std::alloc::{AllocError, Global};
-use working::Declared;
+use working::{Declared, Record};
 
 impl Queue {
     fn new(heap: Global) -> Result<Queue, AllocError>
@@ -36,8 +37,19 @@ fn empty_queues(heap: Global, count: usize) -> Result<Vec<Queue>, AllocError>
 }
 
 impl Line {
+    // Main stands in line, with what its record declares.
+    pub fn new(heap: Global, main: &Record) -> Result<Line, AllocError>
+        ensures line { IfOk result (λ l. (t : ℕ → Task) → line_of l t ≡ Model.member 0 Model.waiting (t 0) ∷ []) }
+        ensures tells { IfOk result (λ l. (t : ℕ → Task) → (t 0).declared ≡ declared_of main.now → Tells l t) }
+        ensures sized { IfOk result (λ l. (object_count l ≡ main.now.objects) × (l.made ≡ 1)) }
+    {
+        let count = main.objects as usize;
+        Line::declaring(heap, &main.declared[..count])
+    }
+
     // Main stands in line, with what it declares on each object.
-    pub fn new(heap: Global, main: &[Declared]) -> Result<Line, AllocError>
+    pub fn declaring(heap: Global, main: &[Declared]) -> Result<Line, AllocError>
+        requires { length main.now ≤ 16 }
         ensures line { IfOk result (λ l. (t : ℕ → Task) → line_of l t ≡ Model.member 0 Model.waiting (t 0) ∷ []) }
         ensures tells { IfOk result (λ l. (t : ℕ → Task) → (t 0).declared ≡ main.now → Tells l t) }
         ensures sized { IfOk result (λ l. (object_count l ≡ length main.now) × (l.made ≡ 1)) }
@@ -60,7 +72,23 @@ impl Line {
     }
 
     // After a step that made a child: the child enters just before its maker, and both wait.
-    pub fn enter(&mut self, maker: u8, child: &[Declared]) -> u8
+    pub fn enter(&mut self, maker: u8, child: &Record) -> u8
+        requires room { self.old.made < 64 }
+        requires live { is_finished (state_of self.old maker) ≡ false }
+        requires sized { child.now.objects ≡ object_count self.old }
+        requires narrower { Narrower (declarations self.old maker) (declared_of child.now) }
+        ensures number { result ≡ self.old.made }
+        ensures line { (t u : ℕ → Task) → ButBoth maker result t u → line_of self.new u ≡ Model.replace maker (Model.member result Model.waiting (u result) ∷ Model.member maker Model.waiting (u maker) ∷ []) (line_of self.old t) }
+        ensures tells { (t u : ℕ → Task) → ButBoth maker result t u → (u maker).declared ≡ (t maker).declared → (u result).declared ≡ declared_of child.now → Tells self.old t → Tells self.new u }
+        ensures objects { object_count self.new ≡ object_count self.old }
+        ensures made { self.new.made ≡ self.old.made + 1 }
+    {
+        let count = child.objects as usize;
+        self.enter_declaring(maker, &child.declared[..count])
+    }
+
+    // `enter`, of a child with these declarations on each object.
+    pub fn enter_declaring(&mut self, maker: u8, child: &[Declared]) -> u8
         requires room { self.old.made < 64 }
         requires live { is_finished (state_of self.old maker) ≡ false }
         requires sized { length child.now ≡ object_count self.old }
@@ -82,7 +110,19 @@ impl Line {
     }
 
     // After a `with`: the task waits, with other declarations.
-    pub fn redeclare(&mut self, n: u8, declared: &[Declared])
+    pub fn redeclare(&mut self, n: u8, task: &Record)
+        requires sized { task.now.objects ≡ object_count self.old }
+        requires narrower { Narrower (declarations self.old n) (declared_of task.now) }
+        ensures line { (t u : ℕ → Task) → But n t u → line_of self.new u ≡ Model.replace n (Model.member n Model.waiting (u n) ∷ []) (line_of self.old t) }
+        ensures tells { (t u : ℕ → Task) → But n t u → (u n).declared ≡ declared_of task.now → Tells self.old t → Tells self.new u }
+        ensures sized { SizedAs self.old self.new }
+    {
+        let count = task.objects as usize;
+        self.redeclare_as(n, &task.declared[..count]);
+    }
+
+    // `redeclare`, to these declarations on each object.
+    pub fn redeclare_as(&mut self, n: u8, declared: &[Declared])
         requires sized { length declared.now ≡ object_count self.old }
         requires narrower { Narrower (declarations self.old n) declared.now }
         ensures line { (t u : ℕ → Task) → But n t u → line_of self.new u ≡ Model.replace n (Model.member n Model.waiting (u n) ∷ []) (line_of self.old t) }

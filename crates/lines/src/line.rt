@@ -25,6 +25,7 @@ pub struct Line {
     ghost few: { made ≤ 64 },
     ghost short: { vec_len order ≤ made },
     ghost room: { 64 ≤ vec_capacity order },
+    ghost objects: { vec_len queues ≤ 16 },
     ghost numbers: { length states ≡ 256 },
     ghost known: { below made order.items ≡ true },
     ghost once: { apart itself order.items ≡ true },

@@ -10,16 +10,16 @@ ghost use Rattle.cards.specs.Cards.{card_of};
 ghost use Rattle.sheets.specs.Sheets.{sheet_of};
 ghost use Rattle.runner.specs.Texts as Texts;
 
-mod rows;
+mod worked;
 
 use bench::Bench;
 use cards::{Card, KindName};
 use kinds::{Flags, Tally, ValueKind};
 use loading::Slot;
-pub use rows::worked_rows;
 use schedulers::{CardOrder, Scheduler};
 use sheets::{LONGEST, fault_sheet, refused_sheet, run_sheet};
 use std::alloc::{AllocError, Global};
+pub use worked::worked_rows;
 use working::{Outcome, work_serially};
 use written::load_card;
 

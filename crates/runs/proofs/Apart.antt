@@ -1,6 +1,6 @@
 -- Two tasks that do not bar each other: what they ask commutes.
 use Rattle.std.proofs.Common.{◌≡◌, ℕ, zero, suc, ◌≢◌, List, [], ◌∷◌, get_or, set, sym, refl, ap, ⊎_elim, arith}
-use Rattle.std.specs.List.{AllByRecursion as All}
+use Rattle.std.specs.List.{AllByRecursion}
 use Rattle.std.proofs.lemmas.List.{get_or-set_other, set_comm}
 use Rattle.std.proofs.lemmas.Bool.{cases_eq}
 use Rattle.kinds.specs.Kinds.{IsWord, Kind, Lawful}
@@ -43,7 +43,7 @@ differ u t a b i j p h g x e = not_both (at u i b) g (rw e (p j a b h x))
 abbrev joined : Kind → List ℕ → ℕ → ℕ → List ℕ
 joined k m o w = set m o (k.join (get_or m o 0) w)
 
-join_same : (k : Kind) → Lawful k → (m : List ℕ) (i w v : ℕ) → All IsWord m → IsWord w → IsWord v → joined k (joined k m i w) i v ≡ joined k (joined k m i v) i w
+join_same : (k : Kind) → Lawful k → (m : List ℕ) (i w v : ℕ) → AllByRecursion IsWord m → IsWord w → IsWord v → joined k (joined k m i w) i v ≡ joined k (joined k m i v) i w
 join_same k law [] i w v h p q = refl
 join_same k law (x ∷ xs) zero w v h p q = ap (λ (y : ℕ). y ∷ xs) (law.exchange x w v h.0 p q)
 join_same k law (x ∷ xs) (suc i) w v h p q = ap (λ (r : List ℕ). x ∷ r) (join_same k law xs i w v h.1 p q)
@@ -51,11 +51,11 @@ join_same k law (x ∷ xs) (suc i) w v h p q = ap (λ (r : List ℕ). x ∷ r) (
 join_other : (k : Kind) (m : List ℕ) (i j w v : ℕ) → i ≢ j → joined k (joined k m i w) j v ≡ joined k (joined k m j v) i w
 join_other k m i j w v ne = rw (get_or-set_other m i j (k.join (get_or m i 0) w) 0 (λ e. ne (sym e)), get_or-set_other m j i (k.join (get_or m j 0) v) 0 ne) (set_comm m i j _ _ ne)
 
-join_join : (k : Kind) → Lawful k → (m : List ℕ) (i j w v : ℕ) → All IsWord m → IsWord w → IsWord v → joined k (joined k m i w) j v ≡ joined k (joined k m j v) i w
+join_join : (k : Kind) → Lawful k → (m : List ℕ) (i j w v : ℕ) → AllByRecursion IsWord m → IsWord w → IsWord v → joined k (joined k m i w) j v ≡ joined k (joined k m j v) i w
 join_join k law m i j w v h p q = ⊎_elim (λ e. rw e (join_same k law m j w v h p q)) (join_other k m i j w v) (cases_eq i j)
 
 -- Two requests commute when their tasks are apart: the words, and what each comes to.
-pub commute_stored : (k : Kind) → Lawful k → (u t : Task) (q r : Request) (m : List ℕ) → Apart u t → Allowed u q → Allowed t r → All IsWord m → Keeps q → Keeps r → stored k (stored k m q) r ≡ stored k (stored k m r) q
+pub commute_stored : (k : Kind) → Lawful k → (u t : Task) (q r : Request) (m : List ℕ) → Apart u t → Allowed u q → Allowed t r → AllByRecursion IsWord m → Keeps q → Keeps r → stored k (stored k m q) r ≡ stored k (stored k m r) q
 unfolding stored
 commute_stored k law u t (fault f l) r m p g h ws kq kr = refl
 commute_stored k law u t (quiet n) r m p g h ws kq kr = refl

@@ -1,7 +1,7 @@
 -- A step of a task that no earlier one bars does not change what serial working comes to.
 use Rattle.std.proofs.Common.{◌≡◌, ℕ, suc, ◌+◌, ◌≤◌, List, [], ◌∷◌, ◌++◌, sym, refl, ap, ◌∙◌, subst, append_assoc, arith}
 use mathlib.Core.Path.{subst₃}
-use Rattle.std.specs.List.{AllByRecursion as All}
+use Rattle.std.specs.List.{AllByRecursion}
 use Rattle.std.proofs.ByRecursion.{All-append, All-weaker}
 use Rattle.kinds.specs.Kinds.{IsWord, Kind, Lawful}
 use Rattle.working.specs.declared.fault.FaultKind.{FaultKind}
@@ -30,7 +30,7 @@ serial_along : (k : Kind) (m m' : List ℕ) (line line' : List Task) (n c c' : �
 serial_along k m m' line line' n c c' r p q e s = subst₃ (λ (a : List ℕ) (b : List Task) (d : ℕ). Serial k a b n d r) p q e s
 
 -- the diamond: u, the first in line, and t behind it make their steps in either order
-diamond : (k : Kind) → Lawful k → (m : List ℕ) (u t : Task) (before behind : List Task) (y x : Next) (n c : ℕ) (r : Result) → Apart u t → All IsWord m → Worded u → Worded t → reply m (request k u) ≡ stepped y → Follows k (stored k (stored k m (request k u)) (request k t)) ((segment y ++ before) ++ (segment x ++ behind)) (suc (suc n)) (c + made_by y + made_by x) r → Follows k (stored k m (request k t)) (u ∷ (before ++ (segment x ++ behind))) (suc n) (c + made_by x) r
+diamond : (k : Kind) → Lawful k → (m : List ℕ) (u t : Task) (before behind : List Task) (y x : Next) (n c : ℕ) (r : Result) → Apart u t → AllByRecursion IsWord m → Worded u → Worded t → reply m (request k u) ≡ stepped y → Follows k (stored k (stored k m (request k u)) (request k t)) ((segment y ++ before) ++ (segment x ++ behind)) (suc (suc n)) (c + made_by y + made_by x) r → Follows k (stored k m (request k t)) (u ∷ (before ++ (segment x ++ behind))) (suc n) (c + made_by x) r
 diamond k law m u t before behind y x n c r p ws wu wt d f =
     record {
       result = f.result;
@@ -87,19 +87,19 @@ more_first k m u t ts behind y x n c r d s e q =
     let z : y ≡ x = next_is y x (sym d ∙ ap (λ v. reply m (request k v)) p ∙ q) in
     follows_refl k _ _ _ _ r (serial_along k _ _ _ _ _ _ _ _ (ap (λ v. stored k m (request k v)) p) (ap (λ v. segment v ++ ts) z ∙ ap (λ v. segment x ++ v) w) (ap (λ v. c + made_by v) z) s)
 
-more_later : (k : Kind) → Lawful k → (m : List ℕ) (u v t : Task) (ts us behind : List Task) (y x : Next) (n c : ℕ) (r : Result) → reply m (request k u) ≡ stepped y → u ∷ ts ≡ v ∷ (us ++ (t ∷ behind)) → All (λ w. Apart w t) (v ∷ us) → WholeWords m (u ∷ ts) → reply m (request k t) ≡ stepped x → ((before : List Task) → segment y ++ ts ≡ before ++ (t ∷ behind) → All (λ w. Apart w t) before → WholeWords (stored k m (request k u)) (segment y ++ ts) → reply (stored k m (request k u)) (request k t) ≡ stepped x → Follows k (stored k (stored k m (request k u)) (request k t)) (before ++ (segment x ++ behind)) (suc (suc n)) (c + made_by y + made_by x) r) → Follows k (stored k m (request k t)) (v ∷ (us ++ (segment x ++ behind))) (suc n) (c + made_by x) r
+more_later : (k : Kind) → Lawful k → (m : List ℕ) (u v t : Task) (ts us behind : List Task) (y x : Next) (n c : ℕ) (r : Result) → reply m (request k u) ≡ stepped y → u ∷ ts ≡ v ∷ (us ++ (t ∷ behind)) → AllByRecursion (λ w. Apart w t) (v ∷ us) → WholeWords m (u ∷ ts) → reply m (request k t) ≡ stepped x → ((before : List Task) → segment y ++ ts ≡ before ++ (t ∷ behind) → AllByRecursion (λ w. Apart w t) before → WholeWords (stored k m (request k u)) (segment y ++ ts) → reply (stored k m (request k u)) (request k t) ≡ stepped x → Follows k (stored k (stored k m (request k u)) (request k t)) (before ++ (segment x ++ behind)) (suc (suc n)) (c + made_by y + made_by x) r) → Follows k (stored k m (request k t)) (v ∷ (us ++ (segment x ++ behind))) (suc n) (c + made_by x) r
 more_later k law m u v t ts us behind y x n c r d e h ww q ih =
     let p : u ≡ v = head_is u v ts _ e in
     let w : ts ≡ us ++ (t ∷ behind) = tail_is u v ts _ e in
     let a : Apart u t = subst (λ (z : Task). Apart z t) (sym p) h.0 in
-    let apart : All (λ v. Apart v t) (segment y ++ us) = All-append _ (segment y) us (All-weaker (Within u) _ (λ v g. apart_within u v t g a) (segment y) (fine_reply k m u y d).within) h.1 in
+    let apart : AllByRecursion (λ v. Apart v t) (segment y ++ us) = All-append _ (segment y) us (All-weaker (Within u) _ (λ v g. apart_within u v t g a) (segment y) (fine_reply k m u y d).within) h.1 in
     let again : reply (stored k m (request k u)) (request k t) ≡ stepped x = later_reply k u t (request k u) (request k t) m a (allowed k u) (allowed k t) ∙ q in
     subst (λ (z : Task). Follows k (stored k m (request k t)) (z ∷ (us ++ (segment x ++ behind))) (suc n) (c + made_by x) r) p
-    (diamond k law m u t us behind y x n c r a ww.store ww.tasks.0 (all_right Worded us (t ∷ behind) (subst (All Worded) w ww.tasks.1)).0 d
+    (diamond k law m u t us behind y x n c r a ww.store ww.tasks.0 (all_right Worded us (t ∷ behind) (subst (AllByRecursion Worded) w ww.tasks.1)).0 d
     (ih (segment y ++ us) (ap (λ v. segment y ++ v) w ∙ sym (append_assoc (segment y) us (t ∷ behind))) apart (words_step k law m [] u ts y ww d) again))
 
 -- a step of a task that is apart from all before it does not change what serial working comes to
-pub invariant : (k : Kind) → Lawful k → {m : List ℕ} {line : List Task} {n c : ℕ} {r : Result} → Serial k m line n c r → (before : List Task) (t : Task) (behind : List Task) (x : Next) → line ≡ before ++ (t ∷ behind) → All (λ u. Apart u t) before → WholeWords m line → reply m (request k t) ≡ stepped x → Follows k (stored k m (request k t)) (before ++ (segment x ++ behind)) (suc n) (c + made_by x) r
+pub invariant : (k : Kind) → Lawful k → {m : List ℕ} {line : List Task} {n c : ℕ} {r : Result} → Serial k m line n c r → (before : List Task) (t : Task) (behind : List Task) (x : Next) → line ≡ before ++ (t ∷ behind) → AllByRecursion (λ u. Apart u t) before → WholeWords m line → reply m (request k t) ≡ stepped x → Follows k (stored k m (request k t)) (before ++ (segment x ++ behind)) (suc n) (c + made_by x) r
 invariant k law done before t behind x e h ww q = absurd (never_empty before t behind e)
 invariant k law (stop {m = m} {t = u} {ts = ts} {f = f} {l = l} d) [] t behind x e h ww q = absurd (stop_first k m u t ts behind f l x d e q)
 invariant k law (stop {m = m} {t = u} {ts = ts} {n = n} {c = c} {f = f} {l = l} d) (v ∷ us) t behind x e h ww q = stop_later k m _ u v ts _ _ f l n c _ d e

@@ -1,6 +1,6 @@
 -- What every reached bench keeps to.
 use Rattle.std.proofs.Common.{◌≡◌, ℕ, suc, ◌+◌, ◌<◌, ◌≤◌, ◌⊎◌, List, [], ◌∷◌, ◌++◌, sym, refl, ap, ◌∙◌, subst, inl, inr, ⊎_elim, arith}
-use Rattle.std.specs.List.{AllByRecursion as All}
+use Rattle.std.specs.List.{AllByRecursion}
 use Rattle.std.proofs.ByRecursion.{All-weaker, All-map}
 use Rattle.kinds.specs.Kinds.{Kind, Lawful}
 use Rattle.cards.specs.Code.{Card}
@@ -31,8 +31,8 @@ pub record Beside (s u : Member) : Type 0 where
 
 -- what holds of the line: every number is below made, faults stand, and each is beside those behind it
 pub record Orderly (k : Kind) (line : List Member) (made : ℕ) : Type 0 where
-  pub numbered : All (λ s. s.number < made) line
-  pub stands : All (λ s. Stands k s.task s.status) line
+  pub numbered : AllByRecursion (λ s. s.number < made) line
+  pub stands : AllByRecursion (λ s. Stands k s.task s.status) line
   pub pairs : Pairs Beside line
 
 -- ... and of what is left to do, where r is the result of serial working
@@ -45,7 +45,7 @@ pub record Sound (k : Kind) (c : Card) (r : Result) (m : List ℕ) (line : List 
 
 -- A member whose status changes.
 
-orderly_status : (k : Kind) (before : List Member) (s : Member) (u : Status) (behind : List Member) (made : ℕ) → Orderly k (before ++ (s ∷ behind)) made → Stands k s.task u → (u ≡ out → All (λ x. Apart x.task s.task) before) → Orderly k (before ++ (with_status s u ∷ behind)) made
+orderly_status : (k : Kind) (before : List Member) (s : Member) (u : Status) (behind : List Member) (made : ℕ) → Orderly k (before ++ (s ∷ behind)) made → Stands k s.task u → (u ≡ out → AllByRecursion (λ x. Apart x.task s.task) before) → Orderly k (before ++ (with_status s u ∷ behind)) made
 unfolding with_status member
 orderly_status k before s u behind made h g a = record {
   numbered = all_update _ before s behind (with_status s u ∷ []) h.numbered (all_at _ before s behind h.numbered, tt);
@@ -57,11 +57,11 @@ orderly_status k before s u behind made h g a = record {
       (All-weaker _ _ (λ v b. (record { apart = b.apart; differ = b.differ }, tt)) behind (pairs_behind Beside before s behind h.pairs));
 }
   where
-    beside : (xs : List Member) → All (λ x. Beside x s) xs → (u ≡ out → All (λ x. Apart x.task s.task) xs) → All (λ x. All (Beside x) (with_status s u ∷ [])) xs
+    beside : (xs : List Member) → AllByRecursion (λ x. Beside x s) xs → (u ≡ out → AllByRecursion (λ x. Apart x.task s.task) xs) → AllByRecursion (λ x. AllByRecursion (Beside x) (with_status s u ∷ [])) xs
     beside [] b c = tt
     beside (x ∷ xs) b c = ((record { apart = λ e. (c e).0; differ = b.0.differ }, tt), beside xs b.1 (λ e. (c e).1))
 
-pub sound_status : (k : Kind) (c : Card) (r : Result) (m : List ℕ) (before : List Member) (s : Member) (u : Status) (behind : List Member) (made steps : ℕ) → Sound k c r m (before ++ (s ∷ behind)) made steps → Stands k s.task u → (u ≡ out → All (λ x. Apart x.task s.task) before) → Sound k c r m (before ++ (with_status s u ∷ behind)) made steps
+pub sound_status : (k : Kind) (c : Card) (r : Result) (m : List ℕ) (before : List Member) (s : Member) (u : Status) (behind : List Member) (made steps : ℕ) → Sound k c r m (before ++ (s ∷ behind)) made steps → Stands k s.task u → (u ≡ out → AllByRecursion (λ x. Apart x.task s.task) before) → Sound k c r m (before ++ (with_status s u ∷ behind)) made steps
 sound_status k c r m before s u behind made steps h g a =
     let e = same_tasks before s u behind in
     record {
@@ -80,7 +80,7 @@ record Successor (t : Task) (n c : ℕ) (w : Member) : Type 0 where
   within : Within t w.task
   numbered : (w.number ≡ n) ⊎ (w.number ≡ c)
 
-successors : (t : Task) (n c : ℕ) (x : Next) → All (Within t) (segment x) → All (Successor t n c) (members n c x)
+successors : (t : Task) (n c : ℕ) (x : Next) → AllByRecursion (Within t) (segment x) → AllByRecursion (Successor t n c) (members n c x)
 unfolding segment members member
 successors t n c leaves h = tt
 successors t n c (goes u) h = (record { waits = refl; within = h.0; numbered = inl refl }, tt)
@@ -92,13 +92,13 @@ successors_pairs n c leaves h = tt
 successors_pairs n c (goes u) h = (tt, tt)
 successors_pairs n c (makes v u) h = ((record { apart = λ e. let z : ◌≡◌ {A = ℕ} 0 1 = cc in absurd (omega arith); differ = λ e. omega arith }, tt), (tt, tt))
 
-successors_numbered : (n c : ℕ) (x : Next) → n < c → All (λ s. s.number < c + made_by x) (members n c x)
+successors_numbered : (n c : ℕ) (x : Next) → n < c → AllByRecursion (λ s. s.number < c + made_by x) (members n c x)
 unfolding members member made_by
 successors_numbered n c leaves h = tt
 successors_numbered n c (goes u) h = (omega arith, tt)
 successors_numbered n c (makes v u) h = (omega arith, (omega arith, tt))
 
-successors_stand : (k : Kind) (n c : ℕ) (x : Next) → All (λ s. Stands k s.task s.status) (members n c x)
+successors_stand : (k : Kind) (n c : ℕ) (x : Next) → AllByRecursion (λ s. Stands k s.task s.status) (members n c x)
 unfolding members member
 successors_stand k n c leaves = tt
 successors_stand k n c (goes u) = (tt, tt)
@@ -113,24 +113,24 @@ successors_tasks n c (makes v u) = refl
 never_out : (w : Member) → w.status ≡ waiting → w.status ≡ out → ⊥
 never_out w p q = let z : ◌≡◌ {A = ℕ} 0 1 = cc in omega arith
 
-successor_behind : (s : Member) (c : ℕ) (u : Member) → Beside u s → u.number < c → (ws : List Member) → All (Successor s.task s.number c) ws → All (Beside u) ws
+successor_behind : (s : Member) (c : ℕ) (u : Member) → Beside u s → u.number < c → (ws : List Member) → AllByRecursion (Successor s.task s.number c) ws → AllByRecursion (Beside u) ws
 successor_behind s c u b l [] h = tt
 successor_behind s c u b l (w ∷ ws) h = (
   record { apart = λ e. absurd (never_out w h.0.waits e); differ = λ e. ⊎_elim (λ g. b.differ (e ∙ g)) (λ g. omega arith) h.0.numbered },
   successor_behind s c u b l ws h.1,
 )
 
-successor_before : (s : Member) (c : ℕ) (v : Member) → Beside s v → v.number < c → (ws : List Member) → All (Successor s.task s.number c) ws → All (λ w. Beside w v) ws
+successor_before : (s : Member) (c : ℕ) (v : Member) → Beside s v → v.number < c → (ws : List Member) → AllByRecursion (Successor s.task s.number c) ws → AllByRecursion (λ w. Beside w v) ws
 successor_before s c v b l [] h = tt
 successor_before s c v b l (w ∷ ws) h = (
   record { apart = λ e. apart_within s.task w.task v.task h.0.within (b.apart e); differ = λ e. ⊎_elim (λ g. b.differ (sym g ∙ e)) (λ g. omega arith) h.0.numbered },
   successor_before s c v b l ws h.1,
 )
 
-orderly_step : (k : Kind) (before : List Member) (s : Member) (behind : List Member) (made : ℕ) (x : Next) → Orderly k (before ++ (s ∷ behind)) made → All (Within s.task) (segment x) → Orderly k (before ++ (members s.number made x ++ behind)) (made + made_by x)
+orderly_step : (k : Kind) (before : List Member) (s : Member) (behind : List Member) (made : ℕ) (x : Next) → Orderly k (before ++ (s ∷ behind)) made → AllByRecursion (Within s.task) (segment x) → Orderly k (before ++ (members s.number made x ++ behind)) (made + made_by x)
 orderly_step k before s behind made x h w =
     let n : s.number < made = all_at _ before s behind h.numbered in
-    let hs : All (Successor s.task s.number made) (members s.number made x) = successors s.task s.number made x w in
+    let hs : AllByRecursion (Successor s.task s.number made) (members s.number made x) = successors s.task s.number made x w in
     record {
       numbered = all_update _ before s behind (members s.number made x) (All-weaker _ _ (λ u l. omega arith) _ h.numbered) (successors_numbered s.number made x n);
       stands = all_update _ before s behind (members s.number made x) h.stands (successors_stand k s.number made x);

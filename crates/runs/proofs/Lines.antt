@@ -1,7 +1,7 @@
 -- Members of a line: where one stands, and the line with others in its place.
 use Rattle.std.proofs.Common.{◌≡◌, ℕ, Bool, true, false, cond, eqb, List, [], ◌∷◌, ◌++◌, map, sym, refl, ap, ◌∙◌, subst, arith}
 use mathlib.Core.Option.{some}
-use Rattle.std.specs.List.{AllByRecursion as All}
+use Rattle.std.specs.List.{AllByRecursion}
 use Rattle.std.proofs.lemmas.List.{map-append}
 use Rattle.std.proofs.lemmas.Bool.{eqb-true, ne_eqb, eq-eqb, or_parts, or_from, or_left, or_right}
 use Rattle.working.specs.Tasks.{Task}
@@ -54,7 +54,7 @@ found n (u ∷ us) s h = go (eqb u.number n) refl h (found n us s)
     go true e g f = let p : u ≡ s = cc in subst (Found n (u ∷ us)) p (found_here n u us e)
     go false e g f = found_later n u us s e (f g)
 
-pub find_at : (before : List Member) (s : Member) (behind : List Member) → All (λ u. u.number ≡ s.number → ⊥) before → find s.number (before ++ (s ∷ behind)) ≡ some s
+pub find_at : (before : List Member) (s : Member) (behind : List Member) → AllByRecursion (λ u. u.number ≡ s.number → ⊥) before → find s.number (before ++ (s ∷ behind)) ≡ some s
 unfolding find
 find_at [] s behind h = rw (eq-eqb s.number s.number refl)
 find_at (u ∷ us) s behind h = rw (ne_eqb u.number s.number h.0) (find_at us s behind h.1)

@@ -1,6 +1,6 @@
 -- What the tests of literals say.
 use Rattle.std.proofs.Common.{◌≡◌, true, List, [], ◌∷◌, ℤ, arith}
-use Rattle.std.specs.List.{AllByRecursion as All}
+use Rattle.std.specs.List.{AllByRecursion}
 use Rattle.std.proofs.lemmas.Int.{ints}
 use Rattle.std.proofs.lemmas.Bool.{and_parts}
 use Rattle.kinds.specs.Kinds.{IsLiteral}
@@ -29,7 +29,7 @@ abbrev mutual
 literal_is : (z : ℤ) → is_literal z ≡ true → IsLiteral z
 literal_is z e = (grind (arith, ints), grind (arith, ints))
 
-pub literals_are : (zs : List ℤ) → all_literals zs ≡ true → All IsLiteral zs
+pub literals_are : (zs : List ℤ) → all_literals zs ≡ true → AllByRecursion IsLiteral zs
 unfolding all_literals
 literals_are [] e = tt
 literals_are (z ∷ zs) e = let h = and_parts (is_literal z) (all_literals zs) e in (literal_is z h.0, literals_are zs h.1)

@@ -1,6 +1,6 @@
 -- A task is ready exactly if it is not stuck and no task before it bars it.
 use Rattle.std.proofs.Common.{◌≡◌, ℕ, zero, suc, ◌<◌, Bool, true, false, cond, not, ◌&&◌, ◌||◌, eqb, List, [], ◌∷◌, ◌++◌, length, sym, refl, ap, ◌∙◌, ⊎_elim, arith}
-use Rattle.std.specs.List.{AllByRecursion as All}
+use Rattle.std.specs.List.{AllByRecursion}
 use Rattle.std.proofs.lemmas.List.{get_or_past}
 use Rattle.std.proofs.lemmas.Bool.{both_ways, not-true, not_from_false, and_parts, and_from, or_parts, or_from, or_left, or_right, cases_Bool, cases_lt, cases_eq, ne_eqb, eq-eqb}
 use Rattle.cards.specs.declared.lines.Access.{Access}
@@ -80,7 +80,7 @@ clear_own false a n e q h p = let z : ◌≡◌ {A = ℕ} 0 1 = cc in absurd (om
 abbrev Clear : List Member → Member → Type 0
 Clear line s = (o : ℕ) (a : Access) → at s.task o a ≡ Immediate → clear a (earlier s.number (queue o line)) ≡ true
 
-pub clear_apart : (s : Member) (before rest : List Member) → All (λ u. u.number ≡ s.number → ⊥) before → Clear (before ++ rest) s → All (λ u. Apart u.task s.task) before
+pub clear_apart : (s : Member) (before rest : List Member) → AllByRecursion (λ u. u.number ≡ s.number → ⊥) before → Clear (before ++ rest) s → AllByRecursion (λ u. Apart u.task s.task) before
 unfolding queue on
 clear_apart s [] rest f h = tt
 clear_apart s (u ∷ us) rest f h =
@@ -94,7 +94,7 @@ declares_own d Rd e = or_left (held d.reads) (held d.writes || held d.commutes) 
 declares_own d Wr e = or_right (held d.reads) (held d.writes || held d.commutes) (or_left (held d.writes) (held d.commutes) (ap held e))
 declares_own d Cm e = or_right (held d.reads) (held d.writes || held d.commutes) (or_right (held d.writes) (held d.commutes) (ap held e))
 
-pub apart_clear : (s : Member) (before behind : List Member) → All (λ u. Apart u.task s.task) before → Clear (before ++ (s ∷ behind)) s
+pub apart_clear : (s : Member) (before behind : List Member) → AllByRecursion (λ u. Apart u.task s.task) before → Clear (before ++ (s ∷ behind)) s
 unfolding queue on
 apart_clear s [] behind h o a i = clear_own (declares (on s o)) a s.number (record { number = s.number; declared = on s o }) (queue o behind) (declares_own (on s o) a i) refl
 apart_clear s (u ∷ us) behind h o a i =

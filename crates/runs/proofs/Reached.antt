@@ -1,7 +1,7 @@
 -- Every reached bench keeps the invariant, and once settled it agrees with serial working.
 use Rattle.std.proofs.Common.{◌≡◌, ℕ, ◌+◌, true, false, not, ◌&&◌, ◌⊎◌, List, [], ◌∷◌, ◌++◌, sym, refl, ap, ◌∙◌, subst, inl, inr, ⊎_elim, arith}
 use mathlib.Core.Option.{some}
-use Rattle.std.specs.List.{AllByRecursion as All}
+use Rattle.std.specs.List.{AllByRecursion}
 use Rattle.std.proofs.ByRecursion.{All-weaker}
 use Rattle.std.proofs.lemmas.Bool.{both_ways, not-true, not_from_false, and_parts, and_from, cases_Bool, or_left, cond-true}
 use Rattle.kinds.specs.Kinds.{Kind, Lawful}
@@ -45,14 +45,14 @@ module _ (k : Kind) (c : Card) (r : Result) (b : Bench) (going_on : b.closed ≡
   not_shut : {X : Type 0} → b.closed ≡ true → X
   not_shut e = absurd (both_ways b.closed going_on e)
 
-  holds_marked : (s : Member) (u : Status) (f : Found s.number b.line s) → Stands k s.task u → (u ≡ out → All (λ x. Apart x.task s.task) f.before) → Holds k c r (marked b s u)
+  holds_marked : (s : Member) (u : Status) (f : Found s.number b.line s) → Stands k s.task u → (u ≡ out → AllByRecursion (λ x. Apart x.task s.task) f.before) → Holds k c r (marked b s u)
   unfolding marked bench
   holds_marked s u f g a = record {
     sound = rw (f.replaced (with_status s u ∷ [])) (sound_status k c r b.store f.before s u f.behind b.made b.steps (split_sound s f) g a);
     shut = not_shut;
   }
 
-  apart_before : (s : Member) (f : Found s.number b.line s) → ready b.line s ≡ true → All (λ x. Apart x.task s.task) f.before
+  apart_before : (s : Member) (f : Found s.number b.line s) → ready b.line s ≡ true → AllByRecursion (λ x. Apart x.task s.task) f.before
   apart_before s f e =
       let beside = pairs_before Beside f.before s f.behind (split_sound s f).orderly.pairs in
       clear_apart s f.before (s ∷ f.behind) (All-weaker _ _ (λ u g. g.differ) f.before beside) (ready_clear _ s (rw f.split at e))
@@ -156,7 +156,7 @@ serial_stuck k (stop d) f l e = cc
 serial_stuck k (more d s) f l e = absurd (no_step _ _ _ _ e d)
 
 -- at a settled line serial working is at its end
-settled_ends : (k : Kind) (m : List ℕ) (line : List Member) (n c : ℕ) (q : Result) → settled_line line ≡ true → All (λ s. Stands k s.task s.status) line → Serial k m (tasks line) n c q → (line_outcome m line ≡ some q.outcome) × (q.steps ≡ n) × (q.made ≡ c)
+settled_ends : (k : Kind) (m : List ℕ) (line : List Member) (n c : ℕ) (q : Result) → settled_line line ≡ true → AllByRecursion (λ s. Stands k s.task s.status) line → Serial k m (tasks line) n c q → (line_outcome m line ≡ some q.outcome) × (q.steps ≡ n) × (q.made ≡ c)
 unfolding settled_line line_outcome stuck_outcome is_stuck
 settled_ends k m [] n c q e h s = let p = serial_empty k s in (ap (λ (x : Result). some x.outcome) (sym p), ap (λ (x : Result). x.steps) p, ap (λ (x : Result). x.made) p)
 settled_ends k m (u ∷ us) n c q e h s = go u.status e h.0

@@ -1,7 +1,7 @@
 -- One turn: what is offered can be taken, what is taken can be performed, and less is left to do.
 use Rattle.std.proofs.Common.{◌≡◌, ℕ, zero, suc, ◌<◌, Bool, true, false, cond, not, List, [], ◌∷◌, ◌++◌, length, get_or, sym, refl, ap, ◌∙◌, subst, ⊎_elim, append_assoc, arith}
 use mathlib.Core.Option.{some}
-use Rattle.std.specs.List.{AllByRecursion as All}
+use Rattle.std.specs.List.{AllByRecursion}
 use Rattle.std.proofs.ByRecursion.{All-weaker}
 use Rattle.std.proofs.lemmas.Bool.{both_ways, not-true, and_parts}
 use Rattle.kinds.specs.Kinds.{Kind}
@@ -56,7 +56,7 @@ offered_waits line s e =
     go (stuck f l) p q = let z : ◌≡◌ {A = ℕ} 0 1 = cc in absurd (omega arith)
 
 -- numbers differ, so a member that stands in the line is found
-differs : (k : Kind) (before : List Member) (s : Member) (behind : List Member) (made : ℕ) → Orderly k (before ++ (s ∷ behind)) made → All (λ u. u.number ≡ s.number → ⊥) before
+differs : (k : Kind) (before : List Member) (s : Member) (behind : List Member) (made : ℕ) → Orderly k (before ++ (s ∷ behind)) made → AllByRecursion (λ u. u.number ≡ s.number → ⊥) before
 differs k before s behind made h = All-weaker _ _ (λ u g. g.differ) before (pairs_before Beside before s behind h.pairs)
 
 pub find_split : (k : Kind) (line before : List Member) (s : Member) (behind : List Member) (made : ℕ) → Orderly k line made → line ≡ before ++ (s ∷ behind) → find s.number line ≡ some s

@@ -1,7 +1,7 @@
 -- Objects and tasks hold words, and every step keeps that.
 use Rattle.std.proofs.Common.{◌≡◌, ℕ, zero, suc, Bool, cond, List, [], ◌∷◌, ◌++◌, get_or, replicate, pos, arith}
 use Rattle.std.proofs.lemmas.Int.{ints}
-use Rattle.std.specs.List.{AllByRecursion as All}
+use Rattle.std.specs.List.{AllByRecursion}
 use Rattle.std.proofs.lemmas.Bool.{cond_both}
 use Rattle.std.proofs.ByRecursion.{All-set, All-map, All-weaker}
 use Rattle.kinds.specs.Kinds.{IsWord, IsLiteral, Kind, Lawful}
@@ -18,20 +18,20 @@ use Rattle.runs.proofs.Pairs.{all_update, all_at}
 
 -- a task holds words, and literals in what it has to do
 pub record Worded (t : Task) : Type 0 where
-  pub words : All IsWord t.words
+  pub words : AllByRecursion IsWord t.words
   pub work : BlockLiterals t.work
 
 -- the objects' words, and the tasks in the line
 pub record WholeWords (m : List ℕ) (line : List Task) : Type 0 where
-  pub store : All IsWord m
-  pub tasks : All Worded line
+  pub store : AllByRecursion IsWord m
+  pub tasks : AllByRecursion Worded line
 
-words_getD : (ws : List ℕ) (i : ℕ) → All IsWord ws → IsWord (get_or ws i 0)
+words_getD : (ws : List ℕ) (i : ℕ) → AllByRecursion IsWord ws → IsWord (get_or ws i 0)
 words_getD [] i h = omega arith
 words_getD (w ∷ ws) zero h = h.0
 words_getD (w ∷ ws) (suc i) h = words_getD ws i h.1
 
-words_replicate : (n w : ℕ) → IsWord w → All IsWord (replicate n w)
+words_replicate : (n w : ℕ) → IsWord w → AllByRecursion IsWord (replicate n w)
 words_replicate zero w h = tt
 words_replicate (suc n) w h = (h, words_replicate n w h)
 
@@ -43,30 +43,30 @@ literals_before (next l s x) b h g = (h.0, literals_before x b h.1 g)
 -- what a request gives the objects, and the tasks that it leaves
 abbrev pub Keeps : Request → Type 0
 Keeps (fault f l) = Unit {0}
-Keeps (quiet n) = All Worded (segment n)
-Keeps (read o n) = (w : ℕ) → IsWord w → All Worded (segment (n w))
-Keeps (write o w n) = IsWord w × All Worded (segment n)
-Keeps (join o w n) = IsWord w × All Worded (segment n)
+Keeps (quiet n) = AllByRecursion Worded (segment n)
+Keeps (read o n) = (w : ℕ) → IsWord w → AllByRecursion Worded (segment (n w))
+Keeps (write o w n) = IsWord w × AllByRecursion Worded (segment n)
+Keeps (join o w n) = IsWord w × AllByRecursion Worded (segment n)
 
 keeps_under : (t : Task) (a : Access) (o : ℕ) (r : Request) (f : FaultKind) (l : ℕ) → Keeps r → Keeps (under t a o r (fault f l))
 unfolding under
 keeps_under t a o r f l h = cond_both (is_immediate (level t.declared o a)) r (fault f l) Keeps (λ e. h) (λ e. tt)
 
-keeps_with : (t : Task) (b : Block) (s : Section) → All IsWord t.words → BlockLiterals b → Keeps (after_with t b s)
+keeps_with : (t : Task) (b : Block) (s : Section) → AllByRecursion IsWord t.words → BlockLiterals b → Keeps (after_with t b s)
 unfolding after_with changed segment
 keeps_with t b (refused l) h g = tt
 keeps_with t b (accepted ds) h g = (record { words = h; work = g }, tt)
 
-keeps_task : (t : Task) (x b : Block) (s : Section) → All IsWord t.words → BlockLiterals x → BlockLiterals b → Keeps (after_task t x b s)
+keeps_task : (t : Task) (x b : Block) (s : Section) → AllByRecursion IsWord t.words → BlockLiterals x → BlockLiterals b → Keeps (after_task t x b s)
 unfolding after_task child maker segment
 keeps_task t x b (refused l) h f g = tt
 keeps_task t x b (accepted ds) h f g = (record { words = h; work = f }, (record { words = h; work = g }, tt))
 
-keeps_arm : (t : Task) (z : Bool) (x y b : Block) → All IsWord t.words → BlockLiterals x → BlockLiterals y → BlockLiterals b → Worded (continued t (cond z x y before b))
+keeps_arm : (t : Task) (z : Bool) (x y b : Block) → AllByRecursion IsWord t.words → BlockLiterals x → BlockLiterals y → BlockLiterals b → Worded (continued t (cond z x y before b))
 unfolding continued changed
 keeps_arm t z x y b h p q g = record { words = h; work = literals_before (cond z x y) b (cond_both z x y BlockLiterals (λ e. p) (λ e. q)) g }
 
-reply_words : (m : List ℕ) (r : Request) (x : Next) → All IsWord m → Keeps r → reply m r ≡ stepped x → All Worded (segment x)
+reply_words : (m : List ℕ) (r : Request) (x : Next) → AllByRecursion IsWord m → Keeps r → reply m r ≡ stepped x → AllByRecursion Worded (segment x)
 unfolding reply
 reply_words m (fault f l) x h g e = let z : ◌≡◌ {A = ℕ} 0 1 = cc in absurd (omega arith)
 reply_words m (quiet n) x h g e = let q : n ≡ x = cc in rw (← q) g
@@ -78,7 +78,7 @@ zero_literal : IsLiteral (pos 0)
 zero_literal = (omega (arith, ints), omega (arith, ints))
 
 module _ (k : Kind) (law : Lawful k) where
-  keeps_statement : (t : Task) (l : ℕ) (s : Statement) (b : Block) → All IsWord t.words → StatementLiterals s → BlockLiterals b → Keeps (statement_request k t l s b)
+  keeps_statement : (t : Task) (l : ℕ) (s : Statement) (b : Block) → AllByRecursion IsWord t.words → StatementLiterals s → BlockLiterals b → Keeps (statement_request k t l s b)
   unfolding statement_request with_word with_pointer continued changed word segment
   keeps_statement t l (Statement.set i z) b h f g = (record { words = All-set IsWord t.words i _ (law.literal_word z f) h; work = g }, tt)
   keeps_statement t l (Statement.add i j) b h f g = (record { words = All-set IsWord t.words i _ (law.add_word _ _ (words_getD t.words i h) (words_getD t.words j h)) h; work = g }, tt)
@@ -94,7 +94,7 @@ module _ (k : Kind) (law : Lawful k) where
   keeps_statement t l (Statement.task ds x) b h f g = keeps_task t x b _ h f g
   keeps_statement t l (Statement.with ds) b h f g = keeps_with t b _ h g
 
-  keeps_block : (t : Task) (b : Block) → All IsWord t.words → BlockLiterals b → Keeps (block_request k t b)
+  keeps_block : (t : Task) (b : Block) → AllByRecursion IsWord t.words → BlockLiterals b → Keeps (block_request k t b)
   unfolding block_request segment
   keeps_block t end h g = tt
   keeps_block t (next l s b) h g = keeps_statement t l s b h g.0 g.1
@@ -105,7 +105,7 @@ module _ (k : Kind) (law : Lawful k) where
 
   -- The words after a request, and the tasks after it.
 
-  stored_words : (m : List ℕ) (r : Request) → All IsWord m → Keeps r → All IsWord (stored k m r)
+  stored_words : (m : List ℕ) (r : Request) → AllByRecursion IsWord m → Keeps r → AllByRecursion IsWord (stored k m r)
   unfolding stored
   stored_words m (fault f l) h g = h
   stored_words m (quiet n) h g = h

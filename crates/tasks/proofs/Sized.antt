@@ -1,12 +1,12 @@
 -- Each task declares on each object.
-use Rattle.std.proofs.Common.{◌≡◌, ℕ, zero, suc, List, [], ◌∷◌, length, Some, sym, refl, ap, ◌∙◌, arith, length-take}
+use Rattle.std.proofs.Common.{◌≡◌, ℕ, zero, suc, List, [], ◌∷◌, length, Some, sym, refl, ap, ◌∙◌, arith}
 use Rattle.std.specs.List.{slice_get}
 use Rattle.std.proofs.iter.runs.Lists.{slice_get_within}
 use Rattle.working.specs.declared.record.Record.{Record}
 use Rattle.working.specs.declared.work.Work.{Work}
 use Rattle.working.specs.Tasks.{Task}
-use Rattle.working.specs.Records.{declared_of}
 use Rattle.working.specs.Steps.{task_of}
+use Rattle.working.proofs.Sections.{length_declared}
 use Rattle.tasks.specs.declared.tasks.Tasks.{Tasks}
 use Rattle.tasks.specs.Views.{store_of, together, tasks_of}
 use Rattle.tasks.proofs.Rooms.{sizes_at}
@@ -18,9 +18,6 @@ parts_of [] ws n t e = let z : ◌≡◌ {A = ℕ} 0 1 = cc in absurd (omega ari
 parts_of (r ∷ rs) [] n t e = let z : ◌≡◌ {A = ℕ} 0 1 = cc in absurd (omega arith)
 parts_of (r ∷ rs) (w ∷ ws) zero t e = let p : task_of r w ≡ t = cc in (r, w, refl, p)
 parts_of (r ∷ rs) (w ∷ ws) (suc n) t e = parts_of rs ws n t e
-
-length_declared : (r : Record) → length (declared_of r) ≡ r.objects
-length_declared r = simp length-take (omega (arith, r.few, r.wide))
 
 pub declared_sized : (s : Tasks) (n : ℕ) (t : Task) → slice_get (tasks_of s) n ≡ Some t → length t.declared ≡ length (store_of s)
 declared_sized s n t e =

@@ -12,7 +12,7 @@ use Rattle.cards.specs.Bounds.{step_bound, statement_steps, task_bound}
 use Rattle.working.specs.Tasks.{Declared, nothing, state, with_state, held, is_immediate, level, assign, Task}
 use Rattle.working.specs.Requests.{FaultKind, Next, goes, Request, fault, quiet, read, write, join, changed, continued, with_word, with_pointer, word, Section, refused, accepted, amended, endowed, child, maker, after_with, after_task, under, statement_request, block_request, request, stepped, reply}
 use Rattle.working.specs.Serial.{segment, made_by}
-use Rattle.std.specs.List.{AllByRecursion as All}
+use Rattle.std.specs.List.{AllByRecursion}
 
 -- the declaration state of a task
 abbrev pub at : Task → ℕ → Access → Level
@@ -105,7 +105,7 @@ total_tasks (t ∷ ts) = task_bound t.work + total_tasks ts
 
 -- n leaves tasks that hold no more than t, have less than s to do, and make at most c tasks, with the one just made
 pub record Fine (t : Task) (s c : ℕ) (n : Next) : Type 0 where
-  pub within : All (Within t) (segment n)
+  pub within : AllByRecursion (Within t) (segment n)
   pub spends : total_steps (segment n) < s
   pub counts : made_by n + total_tasks (segment n) ≤ c
 

@@ -8,6 +8,8 @@ use Rattle.cards.specs.declared.lines.Level.TheVariants.{Absent, Deferred, Immed
 use Rattle.cards.specs.declared.lines.Declaration.{Declaration}
 use Rattle.working.specs.Tasks.{Declared, nothing, held, level, assign}
 use Rattle.working.specs.Requests.{accepted, refused, amended, endowed}
+use Rattle.working.specs.declared.record.Record.{Record}
+use Rattle.working.specs.Records.{declared_of}
 use Rattle.working.proofs.Fine.{state_nothing, not_held}
 
 pub level_past : (ds : List Declared) (o : ℕ) (a : Access) → length ds ≤ o → Absent ≡ level ds o a
@@ -54,3 +56,7 @@ take_nothing ds n h e = take-replicate n 16 nothing h ∙ ap (λ (m : ℕ). repl
 -- sixteen, the first n of them changed
 pub length_filled : (xs ds : List Declared) (n : ℕ) → length xs ≡ n → n ≤ 16 → length ds ≡ 16 → length (xs ++ drop n ds) ≡ 16
 length_filled xs ds n e h g = simp (length-append, length-drop) (omega arith)
+
+-- a record declares on each object
+pub length_declared : (r : Record) → length (declared_of r) ≡ r.objects
+length_declared r = simp length-take (omega (arith, r.few, r.wide))

@@ -1,6 +1,6 @@
 -- An accepted text is the written form of its card.
 use Rattle.std.proofs.Common.{◌≡◌, ℕ, zero, suc, ◌+◌, ◌-◌, ◌<◌, ◌≤◌, cond, eqb, ltb, leb, List, [], ◌∷◌, ◌++◌, length, IfOk, Some, None, Ok, Err, Option, Result, sym, refl, ap, ◌∙◌, subst, arith}
-use Rattle.std.specs.List.{AllByRecursion as All}
+use Rattle.std.specs.List.{AllByRecursion}
 use Rattle.std.proofs.lemmas.List.{append-nil, append_assoc}
 use Rattle.std.proofs.lemmas.Bool.{cond_both, ltb-true, ltb-false}
 use Rattle.cards.specs.declared.lines.Access.{Access}
@@ -39,7 +39,7 @@ record Section (k : SectionKind) (ds : List Declaration) (s : List Said) (l : �
   after : es ≡ ds ++ some
   lines : (more : List Lines.Line) → t ≡ oks more → s ≡ oks (declaration_lines some (section_end k ∷ more))
   numbers : NumberedDeclarations some l
-  allowed : All (Allowed k) some
+  allowed : AllByRecursion (Allowed k) some
   number : m ≡ l + suc (length some)
 
 abbrev SectionBack : SectionKind → List Declaration → List Said → ℕ → Out (List Declaration) → Type 0
@@ -293,7 +293,7 @@ reads_back h n (suc f) s l d = block_back h n (read_block h n f) (reads_back h n
 record Body (h : Header) (t : List ℕ) (b : Block) : Type 0 where
   text : t ≡ lines_text (block_lines b [])
   count : line_count b ≡ h.lines
-  names : All FitsLine (block_lines b [])
+  names : AllByRecursion FitsLine (block_lines b [])
   numbers : Numbered b 1
   deep : depth b ≤ 8
   pointed : object_bound b ≤ length h.words

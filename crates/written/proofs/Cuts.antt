@@ -1,6 +1,6 @@
 -- Words and lines: put together again, and cut out again.
 use Rattle.std.proofs.Common.{◌≡◌, ℕ, suc, ◌+◌, ◌*◌, ◌<◌, ◌≤◌, Bool, true, false, cond, not, ◌&&◌, eqb, ltb, List, [], ◌∷◌, ◌++◌, length, drop, IfOk, Ok, Err, sym, refl, ap, ◌∙◌, add-one, one-add, arith, length-append}
-use Rattle.std.specs.List.{AllByRecursion as All}
+use Rattle.std.specs.List.{AllByRecursion}
 use Rattle.std.proofs.lemmas.List.{append-nil, take_at}
 use Rattle.std.proofs.lemmas.Bool.{and_parts, not-true, eqb-true, false≢true, lt-ltb, ltb-true, ne_eqb}
 use Rattle.words.specs.Cuts.{upto, has, before, after}
@@ -75,7 +75,7 @@ Word w = (plain w ≡ true) × (length w ≤ 7)
 pub record Words (ws : List (List ℕ)) : Type 0 where
   pub some : 0 < length ws
   pub few : length ws ≤ 3
-  pub words : All Word ws
+  pub words : AllByRecursion Word ws
 
 apart : (b c : ℕ) → c ≤ 32 → ltb 32 b ≡ true → eqb b c ≡ false
 apart b c h e = ne_eqb b c (λ z. omega (arith, ltb-true 32 b e))
@@ -88,7 +88,7 @@ words_cut : (w s : List ℕ) → plain w ≡ true → words (w ++ 32 ∷ s) ≡ 
 words_cut [] s p = refl
 words_cut (b ∷ bs) s p = let q = and_parts (ltb 32 b) (plain bs) p in rw (apart b 32 (omega arith) q.0) (ap (onto b) (words_cut bs s q.1))
 
-words_all : (w : List ℕ) (ws : List (List ℕ)) → All Word (w ∷ ws) → words (unwords (w ∷ ws)) ≡ w ∷ ws
+words_all : (w : List ℕ) (ws : List (List ℕ)) → AllByRecursion Word (w ∷ ws) → words (unwords (w ∷ ws)) ≡ w ∷ ws
 words_all w [] p = words_one w p.0.0
 words_all w (v ∷ ws) p = words_cut w (unwords (v ∷ ws)) p.0.0 ∙ ap (λ t. w ∷ t) (words_all v ws p.1)
 
@@ -105,7 +105,7 @@ unbroken_word : (w s : List ℕ) → plain w ≡ true → unbroken s ≡ true �
 unbroken_word [] s p h = h
 unbroken_word (b ∷ bs) s p h = let q = and_parts (ltb 32 b) (plain bs) p in rw (apart b 10 (omega arith) q.0) (unbroken_word bs s q.1 h)
 
-unbroken_line : (ws : List (List ℕ)) → All Word ws → unbroken (unwords ws) ≡ true
+unbroken_line : (ws : List (List ℕ)) → AllByRecursion Word ws → unbroken (unwords ws) ≡ true
 unbroken_line [] p = refl
 unbroken_line (w ∷ []) p = rw append-nil at (unbroken_word w [] p.0.0 refl)
 unbroken_line (w ∷ v ∷ ws) p = unbroken_word w (32 ∷ unwords (v ∷ ws)) p.0.0 (unbroken_line (v ∷ ws) p.1)
@@ -135,7 +135,7 @@ module _ (ws : List (List ℕ)) (r : List ℕ) (p : Words ws) where
   pub after_line : after 10 (line ws r) ≡ r
   after_line = ap (λ n. drop (n + 1) (line ws r)) at_end ∙ drop_past (unwords ws) r
 
-unwords_length : (ws : List (List ℕ)) → All Word ws → length (unwords ws) ≤ 8 * length ws
+unwords_length : (ws : List (List ℕ)) → AllByRecursion Word ws → length (unwords ws) ≤ 8 * length ws
 unwords_length [] p = omega arith
 unwords_length (w ∷ []) p = omega (arith, p.0.1)
 unwords_length (w ∷ v ∷ ws) p = omega (arith, p.0.1, length-append w (32 ∷ unwords (v ∷ ws)), unwords_length (v ∷ ws) p.1)

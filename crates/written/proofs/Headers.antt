@@ -1,7 +1,7 @@
 -- The header: its text is that of what it says, and is read back as that.
 use Rattle.std.proofs.Common.{◌≡◌, ℕ, zero, suc, ◌+◌, ◌*◌, ◌≤◌, List, [], ◌∷◌, ◌++◌, length, ℤ, IfSome, IfOk, Some, None, Ok, Err, codes, decimal, Option, Result, sym, refl, ap, ◌∙◌, arith}
 use Rattle.std.specs.Fmt.{signed_decimal}
-use Rattle.std.specs.List.{AllByRecursion as All}
+use Rattle.std.specs.List.{AllByRecursion}
 use Rattle.std.proofs.lemmas.List.{append-nil, append_assoc}
 use Rattle.std.proofs.lemmas.Result.{IfOk-weaker}
 use Rattle.std.proofs.lemmas.Bool.{cond_both}
@@ -89,7 +89,7 @@ record Literals (vs : List ℤ) (m : ℕ) (s : List ℕ) (us : List ℤ) (t : Li
   after : us ≡ vs ++ some
   text : s ≡ literal_lines some t
   count : length some ≡ m
-  fit : All Literal some
+  fit : AllByRecursion Literal some
 
 literals_back : (m : ℕ) (vs : List ℤ) (s : List ℕ) (n : ℕ) → IfOk (literals_after m vs s n) (λ p. Literals vs m s p.0 p.1)
 unfolding literals_after literal_lines
@@ -104,7 +104,7 @@ literals_back (suc m) vs s n =
       fit = (h.1, r.fit);
     }) (literals_back m (vs ++ p.0 ∷ []) p.1 (suc n)))
 
-next_literals_back : {B : Type 0} (Q : B → Type 0) (m : ℕ) (s : List ℕ) (n : ℕ) (k : List ℤ → List ℕ → Result B LineFault) → ((us : List ℤ) (t : List ℕ) → s ≡ literal_lines us t → length us ≡ m → All Literal us → IfOk (k us t) Q) → IfOk (next_literals m s n k) Q
+next_literals_back : {B : Type 0} (Q : B → Type 0) (m : ℕ) (s : List ℕ) (n : ℕ) (k : List ℤ → List ℕ → Result B LineFault) → ((us : List ℤ) (t : List ℕ) → s ≡ literal_lines us t → length us ≡ m → AllByRecursion Literal us → IfOk (k us t) Q) → IfOk (next_literals m s n k) Q
 unfolding next_literals
 next_literals_back Q m s n k g = then_made _ Q (literals_after m [] s n) _ (literals_back m [] s n) (λ p h. rw h.after (g h.some p.1 h.text h.count h.fit))
 
@@ -114,7 +114,7 @@ pub record HeaderBack (s : List ℕ) (h : Header) (t : List ℕ) : Type 0 where
   pub an_object : 1 ≤ length h.words
   pub objects : length h.words ≤ 16
   pub lines : h.lines ≤ 256
-  pub literals : All Literal h.words
+  pub literals : AllByRecursion Literal h.words
 
 pub header_back : (s : List ℕ) → IfOk (read_header s) (λ p. HeaderBack s p.0 p.1)
 unfolding read_header
@@ -147,14 +147,14 @@ pub literal_says : (z : ℤ) (n : ℕ) → Literal z → literal_form (signed_de
 unfolding literal_form
 literal_says z n h = rw (literal_forth z h)
 
-literals_forth : (us vs : List ℤ) (t : List ℕ) (n : ℕ) → All Literal us → literals_after (length us) vs (literal_lines us t) n ≡ Ok (vs ++ us, t)
+literals_forth : (us vs : List ℤ) (t : List ℕ) (n : ℕ) → AllByRecursion Literal us → literals_after (length us) vs (literal_lines us t) n ≡ Ok (vs ++ us, t)
 unfolding literals_after literal_lines
 literals_forth [] vs t n h = rw append-nil
 literals_forth (z ∷ us) vs t n h =
     rw (header_line_forth literal_form (signed_decimal z ∷ []) (single _ (literal_a_word z h.0)) z n (literal_says z n h.0) (literal_lines us t))
     (literals_forth us (vs ++ z ∷ []) t (suc n) h.1 ∙ ap (λ ws. Ok (ws, t)) (append_assoc vs (z ∷ []) us))
 
-next_literals_forth : {B : Type 0} (us : List ℤ) (t : List ℕ) (n : ℕ) → All Literal us → (k : List ℤ → List ℕ → Result B LineFault) → next_literals (length us) (literal_lines us t) n k ≡ k us t
+next_literals_forth : {B : Type 0} (us : List ℤ) (t : List ℕ) (n : ℕ) → AllByRecursion Literal us → (k : List ℤ → List ℕ → Result B LineFault) → next_literals (length us) (literal_lines us t) n k ≡ k us t
 unfolding next_literals
 next_literals_forth us t n h k = rw (literals_forth us [] t n h)
 
@@ -201,7 +201,7 @@ objects_words n h = pair_of _ _ (refl, omega arith) (number_word n (omega arith)
 pub lines_words : (m : ℕ) → m ≤ 256 → Words (codes "lines" ∷ decimal m ∷ [])
 lines_words m h = pair_of _ _ (refl, omega arith) (number_word m (omega arith))
 
-module _ (h : Header) (t : List ℕ) (an_object : 1 ≤ length h.words) (objects : length h.words ≤ 16) (lines : h.lines ≤ 256) (literals : All Literal h.words) where
+module _ (h : Header) (t : List ℕ) (an_object : 1 ≤ length h.words) (objects : length h.words ≤ 16) (lines : h.lines ≤ 256) (literals : AllByRecursion Literal h.words) where
   pub header_forth : read_header (header_text h.kind h.order h.words h.lines t) ≡ Ok (h, t)
   unfolding read_header
   header_forth =
@@ -212,7 +212,7 @@ module _ (h : Header) (t : List ℕ) (an_object : 1 ≤ length h.words) (objects
       ∙ next_literals_forth h.words _ 5 literals _
       ∙ next_forth lines_form _ (lines_words _ lines) h.lines (5 + length h.words) (lines_says h.lines (5 + length h.words) (omega arith, lines)) t _
 
-  literals_length : (us : List ℤ) (r : List ℕ) → All Literal us → length (literal_lines us r) ≤ 25 * length us + length r
+  literals_length : (us : List ℤ) (r : List ℕ) → AllByRecursion Literal us → length (literal_lines us r) ≤ 25 * length us + length r
   unfolding literal_lines
   literals_length [] r f = omega arith
   literals_length (z ∷ us) r f = omega (arith, line_length (signed_decimal z ∷ []) (literal_lines us r) (single _ (literal_a_word z f.0)), literals_length us r f.1)

@@ -2,7 +2,7 @@
 use Rattle.std.proofs.Common.{◌≡◌, ℕ, suc, ◌<◌, ◌≤◌, Bool, true, false, cond, eqb, leb, List, [], ◌∷◌, ℤ, pos, negsuc, IfSome, IfOk, Some, None, Ok, Err, codes, decimal, Option, Result, sym, refl, ap, ◌∙◌, arith}
 use Rattle.std.specs.Char.{is_ascii_digit}
 use Rattle.std.specs.Fmt.{signed_decimal}
-use Rattle.std.specs.List.{AllByRecursion as All}
+use Rattle.std.specs.List.{AllByRecursion}
 use Rattle.std.specs.Str.{all_ascii_digits}
 use Rattle.std.proofs.lemmas.Fmt.{length-decimal-le}
 use Rattle.std.proofs.lemmas.Slice.Eq.{bytes_eq-Decides}
@@ -105,7 +105,7 @@ unfolding is_word
 is_back v w e = (bytes_eq-Decides v w).0 e
 
 -- a table in which each value stands beside its text
-pub find_back : {A : Type 0} (text : A → List ℕ) (es : List (List ℕ × A)) → All (λ e. e.0 ≡ text e.1) es → Backs (find es) text (λ _. Unit {0})
+pub find_back : {A : Type 0} (text : A → List ℕ) (es : List (List ℕ × A)) → AllByRecursion (λ e. e.0 ≡ text e.1) es → Backs (find es) text (λ _. Unit {0})
 find_back text [] h w = tt
 find_back text (e ∷ es) h w = go (is_word w e.0) refl (find_back text es h.1 w)
   where

@@ -1,6 +1,6 @@
 -- The lines section: its text is that of its lines, and is read back as them.
 use Rattle.std.proofs.Common.{◌≡◌, ℕ, zero, suc, ◌+◌, ◌*◌, ◌≤◌, Bool, true, false, cond, eqb, List, [], ◌∷◌, length, IfOk, Ok, Err, Result, refl, ap, ◌∙◌, arith}
-use Rattle.std.specs.List.{AllByRecursion as All}
+use Rattle.std.specs.List.{AllByRecursion}
 use Rattle.std.proofs.lemmas.List.{nil_from_length}
 use Rattle.std.proofs.lemmas.Bool.{eqb-true}
 use Rattle.cards.specs.declared.lines.Declaration.{Declaration}
@@ -46,7 +46,7 @@ never_oks e s (x ∷ xs) h = let z : ◌≡◌ {A = ℕ} 0 1 = cc in absurd (ome
 pub record Back (m : ℕ) (s : List ℕ) (xs : List Line) : Type 0 where
   pub text : s ≡ lines_text xs
   pub count : length xs ≡ m
-  pub fits : All FitsLine xs
+  pub fits : AllByRecursion FitsLine xs
 
 one_more : (m : ℕ) (s : List ℕ) (x : Line) (xs : List Line) → s ≡ line (line_words x) (after 10 s) → FitsLine x → Back m (after 10 s) xs → Back (suc m) s (x ∷ xs)
 unfolding lines_text
@@ -76,7 +76,7 @@ section_back (suc m) s n xs h = by (text_line s n) (line_back s n) xs h (section
 
 -- Forth.
 
-pub section_forth : (xs : List Line) (n : ℕ) → All FitsLine xs → section (length xs) (lines_text xs) n ≡ oks xs
+pub section_forth : (xs : List Line) (n : ℕ) → AllByRecursion FitsLine xs → section (length xs) (lines_text xs) n ≡ oks xs
 unfolding section lines_text
 section_forth [] n f = refl
 section_forth (x ∷ xs) n f =
@@ -84,7 +84,7 @@ section_forth (x ∷ xs) n f =
     rw (line_forth (line_words x) (lines_text xs) w n, words_forth (line_words x) w, said_forth x n f.0, after_line (line_words x) (lines_text xs) w)
     (ap (λ s. Ok x ∷ s) (section_forth xs (suc n) f.1))
 
-pub lines_length : (xs : List Line) → All FitsLine xs → length (lines_text xs) ≤ 25 * length xs
+pub lines_length : (xs : List Line) → AllByRecursion FitsLine xs → length (lines_text xs) ≤ 25 * length xs
 unfolding lines_text
 lines_length [] f = omega arith
 lines_length (x ∷ xs) f = omega (arith, line_length (line_words x) (lines_text xs) (line_has_words x f.0), lines_length xs f.1)

@@ -1,6 +1,6 @@
 -- The written form of a card is accepted as that card.
 use Rattle.std.proofs.Common.{◌≡◌, ℕ, zero, suc, ◌+◌, ◌-◌, ◌<◌, ◌≤◌, List, [], ◌∷◌, ◌++◌, length, None, Ok, refl, ap, ◌∙◌, subst, arith}
-use Rattle.std.specs.List.{AllByRecursion as All}
+use Rattle.std.specs.List.{AllByRecursion}
 use Rattle.std.proofs.lemmas.List.{append-nil, append_assoc}
 use Rattle.std.proofs.lemmas.Bool.{ne_eqb, lt-leb, le-ltb}
 use Rattle.cards.specs.declared.lines.Access.{Access}
@@ -36,7 +36,7 @@ declared S.Task l a Absent p h = absurd h
 marked : (k : SectionKind) (d : Declaration) → Allowed k d → mark (Lines.declare d.access d.level d.pointer) k d.line ≡ more d
 marked k d h = declared k d.line d.access d.level d.pointer h
 
-any_allowed : (ds : List Declaration) → All (Allowed S.With) ds
+any_allowed : (ds : List Declaration) → AllByRecursion (Allowed S.With) ds
 any_allowed [] = tt
 any_allowed (d ∷ ds) = (tt, any_allowed ds)
 
@@ -44,7 +44,7 @@ closed : (k : SectionKind) (l : ℕ) → mark (section_end k) k l ≡ close
 closed S.Task l = refl
 closed S.With l = refl
 
-declarations_forth : (h : ℕ) (k : SectionKind) (es ds : List Declaration) (r : List Line) (l : ℕ) → NumberedDeclarations es l → All (Allowed k) es → read_section h k ds (oks (declaration_lines es (section_end k ∷ r))) l ≡ got (ds ++ es) (oks r) (l + suc (length es))
+declarations_forth : (h : ℕ) (k : SectionKind) (es ds : List Declaration) (r : List Line) (l : ℕ) → NumberedDeclarations es l → AllByRecursion (Allowed k) es → read_section h k ds (oks (declaration_lines es (section_end k ∷ r))) l ≡ got (ds ++ es) (oks r) (l + suc (length es))
 unfolding read_section
 declarations_forth h k [] ds r l numbers allowed = rw (closed k l, append-nil ds) (ap (got ds (oks r)) (omega arith))
 declarations_forth h k (e ∷ es) ds r l numbers allowed =

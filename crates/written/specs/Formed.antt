@@ -1,7 +1,7 @@
 -- What a card has to be, besides numbers, to be written.
 use Rattle.std.specs.Prelude.{◌≡◌, ℕ, ◌+◌, ◌≤◌, List, [], ◌∷◌, length, ℤ}
 use Rattle.std.specs.Int.Signed.{mag}
-use Rattle.std.specs.List.{AllByRecursion as All}
+use Rattle.std.specs.List.{AllByRecursion}
 use Rattle.cards.specs.Code.{Block, end, next, Statement, Card}
 use Rattle.cards.specs.Bounds.{line_count, statement_lines, WithinLimits}
 use Rattle.cards.specs.declared.lines.Level.{Level}
@@ -58,11 +58,11 @@ unfoldable mutual
   NumberedInside (Statement.if i j x) l = Numbered x (l + 1)
   NumberedInside (Statement.if_else i j x y) l = Numbered x (l + 1) × Numbered y (l + 2 + line_count x)
   NumberedInside (Statement.repeat c x) l = Numbered x (l + 1)
-  NumberedInside (Statement.task ds x) l = All (λ d. Given d.level) ds × NumberedDeclarations ds (l + 1) × Numbered x (l + 2 + length ds)
+  NumberedInside (Statement.task ds x) l = AllByRecursion (λ d. Given d.level) ds × NumberedDeclarations ds (l + 1) × Numbered x (l + 2 + length ds)
   NumberedInside (Statement.with ds) l = NumberedDeclarations ds (l + 1)
 
 pub record WellFormed (c : Card) : Type 0 where
   pub limits : WithinLimits c
-  pub literals : All Literal c.words
-  pub names : All FitsLine (body_lines c)
+  pub literals : AllByRecursion Literal c.words
+  pub names : AllByRecursion FitsLine (body_lines c)
   pub numbers : Numbered c.body 1

@@ -11,7 +11,7 @@ below_grown false n m i e h = inl (omega arith)
 pub invariant_of-self : goal.invariant_of-self
 invariant_of-self c = record {
   pointers = λ i h.
-    ⊎_elim
+      ⊎_elim
       (λ l. subst (λ x. x.pointer < 4) (sym (c.push.ensures.by_index.0 i no_declaration l)) (c.args.self.now.pointers i l))
       (λ p. subst (λ x. x.pointer < 4) (sym (ap (λ k. get_or (vec_items c.push.new.self) k no_declaration) p.1 ∙ c.push.ensures.by_index.1 no_declaration p.0)) c.args.pointer.small)
       (below_grown _ _ _ i c.push.ensures.len h);

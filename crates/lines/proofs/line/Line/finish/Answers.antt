@@ -23,6 +23,7 @@ invariant_of-self c =
       few = s.few;
       short = omega (arith, s.short, s.order.ok.0, row.ok.0, shorter, length_out c.args.n (vec_items s.order));
       room = omega (arith, c.take_out.ensures.capacity, s.room);
+      objects = omega (arith, s.objects, c.leave_all.ensures.len);
       numbers = h.numbers;
       known = h.known;
       once = h.once;

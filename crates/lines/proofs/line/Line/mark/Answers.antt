@@ -17,6 +17,7 @@ invariant_of-self c =
       few = s.few;
       short = s.short;
       room = s.room;
+      objects = s.objects;
       numbers = h.numbers;
       known = h.known;
       once = h.once;

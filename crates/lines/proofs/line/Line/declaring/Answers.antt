@@ -3,8 +3,8 @@ use Rattle.lines.specs.Stored.{queues_of, members_at}
 use Rattle.lines.proofs.Stores.{length_queues, getD_empty}
 use Rattle.lines.proofs.Queued.{queued_stored}
 use Rattle.lines.proofs.Holds.{Holds, first_states, line_new, holds_new, telling_new}
-use Rattle.lines.proofs.line.Line.new.Goals.{After-refresh}
-use Rattle.lines.proofs.line.Line.new.Goals as goal
+use Rattle.lines.proofs.line.Line.declaring.Goals.{After-refresh}
+use Rattle.lines.proofs.line.Line.declaring.Goals as goal
 
 pub enter_all-requires : goal.enter_all-requires
 enter_all-requires c =
@@ -32,6 +32,7 @@ invariant_of-result c =
       few = omega arith;
       short = omega (arith, row.ok.0, ap length (items c));
       room = omega (arith, c.push_reserved.ensures.capacity, o.capacity);
+      objects = omega (arith, c.enter_all.ensures.len, c.in_ok-queues.ensures.0, c.requires);
       numbers = h.numbers;
       known = h.known;
       once = h.once;

@@ -13,8 +13,8 @@ use Rattle.lines.proofs.Queued.{queued_short, queued_stored}
 use Rattle.lines.proofs.Members.{members_entered}
 use Rattle.lines.proofs.Unfinished.{not_out_marked}
 use Rattle.lines.proofs.Holds.{Holds, holds, holds_entered, telling_entered}
-use Rattle.lines.proofs.line.Line.enter.Goals.{After-refresh}
-use Rattle.lines.proofs.line.Line.enter.Goals as goal
+use Rattle.lines.proofs.line.Line.enter_declaring.Goals.{After-refresh}
+use Rattle.lines.proofs.line.Line.enter_declaring.Goals as goal
 
 pub enter_all-requires : goal.enter_all-requires
 enter_all-requires c =
@@ -53,6 +53,7 @@ invariant_of-self c =
       few = omega (arith, c.mark.ensures.sized.1, c.requires.room);
       short = omega (arith, m.short, m.order.ok.0, row.ok.0, longer);
       room = omega (arith, c.put_before.ensures.capacity, m.room);
+      objects = omega (arith, c.enter_all.ensures.len, m.objects);
       numbers = h.numbers;
       known = h.known;
       once = h.once;

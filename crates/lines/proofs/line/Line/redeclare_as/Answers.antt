@@ -8,8 +8,8 @@ use Rattle.lines.proofs.Stores.{length_queues}
 use Rattle.lines.proofs.Queued.{queued_stored}
 use Rattle.lines.proofs.Unfinished.{not_out_marked}
 use Rattle.lines.proofs.Holds.{Holds, holds, holds_redeclared, telling_redeclared}
-use Rattle.lines.proofs.line.Line.redeclare.Goals.{After-refresh}
-use Rattle.lines.proofs.line.Line.redeclare.Goals as goal
+use Rattle.lines.proofs.line.Line.redeclare_as.Goals.{After-refresh}
+use Rattle.lines.proofs.line.Line.redeclare_as.Goals as goal
 
 -- the queues, before and after
 long : (c : After-refresh) → length (queues_of (vec_items c.redeclare_all.new.queues)) ≡ length (queues_of (vec_items c.mark.new.self.queues))
@@ -33,6 +33,7 @@ invariant_of-self c =
       few = m.few;
       short = m.short;
       room = m.room;
+      objects = omega (arith, c.redeclare_all.ensures.len, m.objects);
       numbers = h.numbers;
       known = h.known;
       once = h.once;
