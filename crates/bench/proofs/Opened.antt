@@ -25,6 +25,12 @@ pub opened_history : (k : Kind) (c : Card) (r : ℕ) (b : Bench) → Literals c 
 unfolding after_calls
 opened_history k c r b ls e = record { literals = ls; calls = []; lawful = tt; leads = sym e }
 
+-- the only task declares on each object
+pub alone_declares : (s : Tasks) (t : Task) (ds : List Declared) → tasks_of s ≡ t ∷ [] → ds ≡ declared_by (slice_get (tasks_of s) 0) → length ds ≡ length (store_of s)
+alone_declares s t ds first is =
+    let known : slice_get (tasks_of s) 0 ≡ Some t = ap (λ (ts : List Task). slice_get ts 0) first in
+    ap length (is ∙ ap declared_by known) ∙ declared_sized s 0 t known
+
 -- the tasks s and the line l of card c, where main declares ds
 module _ (k : Kind) (c : Card) (s : Tasks) (words : store_of s ≡ starting_words k c) (first : tasks_of s ≡ main k c ∷ [])
     (l : Line) (ds : List Declared) (is : ds ≡ declared_by (slice_get (tasks_of s) 0))
@@ -40,7 +46,7 @@ module _ (k : Kind) (c : Card) (s : Tasks) (words : store_of s ≡ starting_word
   first_numbered = sized.1 ∙ sym (ap length first)
 
   pub first_sized : object_count l ≡ length (store_of s)
-  first_sized = sized.0 ∙ ap length (is ∙ ap declared_by known) ∙ declared_sized s 0 (main k c) known
+  first_sized = sized.0 ∙ alone_declares s (main k c) ds first is
 
   first_line : line_of l (task_at (tasks_of s)) ≡ member 0 waiting (main k c) ∷ []
   first_line = line (task_at (tasks_of s)) ∙ ap (λ (t : Task). member 0 waiting t ∷ []) (at_known (tasks_of s) 0 (main k c) known)

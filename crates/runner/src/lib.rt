@@ -1,8 +1,8 @@
 // A card's text becomes its sheet.
 //
 // `text_sheet` reads a text, works its card off on a bench under the order that it names, and writes the sheet,
-// whatever the text is. `bench_sheet` does the same for a card that is loaded, under any kind and any scheduler, and
-// `serial_sheet` works a card from top to bottom.
+// whatever the text is. `ordered_sheet` does the same for a card that is loaded, and `bench_sheet` under any kind and
+// any scheduler. `card_sheet` and `serial_sheet` work a card from top to bottom.
 #![tactic(auto)]
 
 ghost use Rattle.std.specs.Prelude.{◌≡◌, IfOk};
@@ -65,8 +65,18 @@ pub fn bench_sheet<'c, K: ValueKind, S: Scheduler>(
     Ok(sheet)
 }
 
-// The sheet of a card under the kind and the order that it names.
-fn card_sheet(heap: Global, card: &Card) -> Result<Vec<u8>, AllocError>
+// The sheet of a card under the kind that it names, by serial working.
+pub fn card_sheet(heap: Global, card: &Card) -> Result<Vec<u8>, AllocError>
+    ensures { IfOk result (λ v. v.items ≡ Texts.card_sheet (card_of card.now)) }
+{
+    match card.kind() {
+        KindName::Tally => serial_sheet(heap, &Tally, card),
+        KindName::Flags => serial_sheet(heap, &Flags, card),
+    }
+}
+
+// The same sheet, of a card that is worked off on a bench under the kind and the order that it names.
+pub fn ordered_sheet(heap: Global, card: &Card) -> Result<Vec<u8>, AllocError>
     ensures { IfOk result (λ v. v.items ≡ Texts.card_sheet (card_of card.now)) }
 {
     let mut order = CardOrder::new(card.order());
@@ -82,7 +92,7 @@ pub fn text_sheet(heap: Global, text: &[u8]) -> Result<Vec<u8>, AllocError>
 {
     let mut slot = Slot::new(heap)?;
     match load_card(&mut slot, heap, text) {
-        Ok(()) => card_sheet(heap, slot.card()),
+        Ok(()) => ordered_sheet(heap, slot.card()),
         Err(refusal) => match refusal.told() {
             Some(t) => refused_sheet(heap, t.number, t.line, t.word),
             None => Err(AllocError),

@@ -30,8 +30,8 @@ returns-in-Went c =
 
 pub returns-in-Amended : goal.returns-in-Amended
 returns-in-Amended c =
-    let e = c.redeclare.ensures in
-    subst (λ (p : Progress). Followed (tasks_of c.args.tasks.now) c.args.n p c.args.line.now c.redeclare.new.self) (sym c.in-Amended.is)
+    let e = c.redeclare_as.ensures in
+    subst (λ (p : Progress). Followed (tasks_of c.args.tasks.now) c.args.n p c.args.line.now c.redeclare_as.new.self) (sym c.in-Amended.is)
     (record { line = e.line; tells = λ t u d h. e.tells t u d (h ∙ sym c.declared.ensures); objects = e.sized.0; made = same _ _ e.sized.1 })
 
 pub returns-in-Finished : goal.returns-in-Finished
@@ -52,9 +52,9 @@ entered ts n child r l l' ds e d line tells o m =
 room : (c : In-Made) → RoomFor c.args.line.now c.args.n c.in-Made.child (declared_at (tasks_of c.args.tasks.now) c.in-Made.child)
 room c = subst (FitsLine c.args.line.now (tasks_of c.args.tasks.now) c.args.n) c.in-Made.is c.requires
 
-pub enter-requires : goal.enter-requires
-enter-requires c =
-    let r = room (goal.at.enter-requires c).In-Made in
+pub enter_declaring-requires : goal.enter_declaring-requires
+enter_declaring-requires c =
+    let r = room (goal.at.enter_declaring-requires c).In-Made in
     record {
       room = r.room;
       live = r.live;
@@ -64,8 +64,8 @@ enter-requires c =
 
 pub returns-in-Made : goal.returns-in-Made
 returns-in-Made c =
-    let e = c.enter.ensures in
+    let e = c.enter_declaring.ensures in
     let ts = tasks_of c.args.tasks.now in
     let r = room (goal.at.returns-in-Made c).In-Made in
-    subst (λ (p : Progress). Followed ts c.args.n p c.args.line.now c.enter.new.self) (sym c.in-Made.is)
-    (entered ts c.args.n c.in-Made.child c.enter.result c.args.line.now c.enter.new.self c.declared-in-Made.result.now (r.next ∙ sym e.number) c.declared-in-Made.ensures e.line e.tells e.objects e.made)
+    subst (λ (p : Progress). Followed ts c.args.n p c.args.line.now c.enter_declaring.new.self) (sym c.in-Made.is)
+    (entered ts c.args.n c.in-Made.child c.enter_declaring.result c.args.line.now c.enter_declaring.new.self c.declared-in-Made.result.now (r.next ∙ sym e.number) c.declared-in-Made.ensures e.line e.tells e.objects e.made)
