@@ -1,7 +1,7 @@
 # Read by the scripts of this folder: where things are, and how the C programs are built.
 here=$(cd "$(dirname "${BASH_SOURCE[0]}")" && pwd)
 root=$(dirname "$here")
-sheet=${SHEET:-$root/target/bin/sheet}
+sheet=${SHEET:-$root/crates/sheet/out/sheet}
 build=${BUILD:-$root/target/beside}
 
 if [ ! -x "$sheet" ]; then

@@ -37,6 +37,8 @@ fn another_kind_works_the_same_card(rt: HostRuntime) -> Result<(), Fail> {
     let mut slot = Slot::new(heap)?;
     assert!(rt; slot.load(heap, EXAMPLE).is_ok());
     let sheet = serial_sheet(heap, &Flags, slot.card())?;
-    assert!(rt; sheet.as_slice() == b"run 2\ntasks 1\nsteps 3\nobjects 2\n4\n4294967206\n");
+    assert!(rt;
+        sheet.as_slice() == b"run 2\ntasks 1\nsteps 3\nobjects 2\n4\n4294967206\n".as_slice()
+    );
     Ok(())
 }

@@ -120,7 +120,9 @@ mod tests {
     #[test]
     fn run(rt: HostRuntime) -> Result<(), Fail> {
         let sheet = run_sheet(rt.alloc(), &Tally, 3, 11, &[4, 4294967217])?;
-        assert!(rt; sheet.as_slice() == b"run 2\ntasks 3\nsteps 11\nobjects 2\n4\n-79\n");
+        assert!(rt;
+            sheet.as_slice() == b"run 2\ntasks 3\nsteps 11\nobjects 2\n4\n-79\n".as_slice()
+        );
         Ok(())
     }
 
@@ -128,13 +130,15 @@ mod tests {
     fn fault_of_main(rt: HostRuntime) -> Result<(), Fail> {
         let heap = rt.alloc();
         let read = fault_sheet(heap, FaultKind::Read, 20, &[])?;
-        assert!(rt; read.as_slice() == b"fault 3\nkind read\nline 20\ntask main\n");
+        assert!(rt; read.as_slice() == b"fault 3\nkind read\nline 20\ntask main\n".as_slice());
         let write = fault_sheet(heap, FaultKind::Write, 20, &[])?;
-        assert!(rt; write.as_slice() == b"fault 3\nkind write\nline 20\ntask main\n");
+        assert!(rt; write.as_slice() == b"fault 3\nkind write\nline 20\ntask main\n".as_slice());
         let join = fault_sheet(heap, FaultKind::Join, 20, &[])?;
-        assert!(rt; join.as_slice() == b"fault 3\nkind join\nline 20\ntask main\n");
+        assert!(rt; join.as_slice() == b"fault 3\nkind join\nline 20\ntask main\n".as_slice());
         let declare = fault_sheet(heap, FaultKind::Declare, 20, &[])?;
-        assert!(rt; declare.as_slice() == b"fault 3\nkind declare\nline 20\ntask main\n");
+        assert!(rt;
+            declare.as_slice() == b"fault 3\nkind declare\nline 20\ntask main\n".as_slice()
+        );
         Ok(())
     }
 
@@ -143,20 +147,28 @@ mod tests {
         let heap = rt.alloc();
         let place = [1, 12, 63];
         let read = fault_sheet(heap, FaultKind::Read, 20, &place)?;
-        assert!(rt; read.as_slice() == b"fault 3\nkind read\nline 20\ntask main.1.12.63\n");
+        assert!(rt;
+            read.as_slice() == b"fault 3\nkind read\nline 20\ntask main.1.12.63\n".as_slice()
+        );
         let write = fault_sheet(heap, FaultKind::Write, 20, &place)?;
-        assert!(rt; write.as_slice() == b"fault 3\nkind write\nline 20\ntask main.1.12.63\n");
+        assert!(rt;
+            write.as_slice() == b"fault 3\nkind write\nline 20\ntask main.1.12.63\n".as_slice()
+        );
         let join = fault_sheet(heap, FaultKind::Join, 20, &place)?;
-        assert!(rt; join.as_slice() == b"fault 3\nkind join\nline 20\ntask main.1.12.63\n");
+        assert!(rt;
+            join.as_slice() == b"fault 3\nkind join\nline 20\ntask main.1.12.63\n".as_slice()
+        );
         let declare = fault_sheet(heap, FaultKind::Declare, 20, &place)?;
-        assert!(rt; declare.as_slice() == b"fault 3\nkind declare\nline 20\ntask main.1.12.63\n");
+        assert!(rt;
+            declare.as_slice() == b"fault 3\nkind declare\nline 20\ntask main.1.12.63\n".as_slice()
+        );
         Ok(())
     }
 
     #[test]
     fn refused(rt: HostRuntime) -> Result<(), Fail> {
         let sheet = refused_sheet(rt.alloc(), 2, 7, 0)?;
-        assert!(rt; sheet.as_slice() == b"refused 3\nnumber 2\nline 7\nword 0\n");
+        assert!(rt; sheet.as_slice() == b"refused 3\nnumber 2\nline 7\nword 0\n".as_slice());
         Ok(())
     }
 }
