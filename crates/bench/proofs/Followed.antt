@@ -1,17 +1,15 @@
 -- What a step of a task leaves, told to the line, is what the step leaves in the model.
-use Rattle.std.proofs.Common.{◌≡◌, ℕ, suc, ◌+◌, ◌<◌, List, [], ◌∷◌, ◌++◌, length, set, Some, sym, refl, ap, ◌∙◌, subst, ap₂, arith}
+use Rattle.std.proofs.Common.{◌≡◌, ℕ, ◌+◌, ◌<◌, List, [], ◌∷◌, ◌++◌, length, set, Some, sym, refl, ap, ◌∙◌, subst, ap₂, arith}
 use Rattle.std.specs.List.{slice_get}
 use Rattle.std.proofs.lemmas.List.{length-set, length-append}
 use Rattle.std.proofs.iter.runs.Lists.{slice_get_within}
-use Rattle.working.specs.declared.declared.Declared.{Declared}
 use Rattle.working.specs.Tasks.{Task}
-use Rattle.working.specs.Requests.{Next, leaves, goes, makes, Reply, faulted, stepped}
+use Rattle.working.specs.Requests.{leaves, goes, makes, Reply, faulted, stepped}
 use Rattle.working.specs.Serial.{made_by}
 use Rattle.runs.specs.Lines.{waiting, stuck, Member, member}
 use Rattle.runs.specs.Steps.{members}
 use Rattle.tasks.specs.declared.step.Progress.{Progress}
 use Rattle.tasks.specs.declared.step.Progress.TheVariants.{Fault, Went, Amended, Finished, Made}
-use Rattle.tasks.specs.Views.{declared_by}
 use Rattle.tasks.specs.Steps.{after, Says, Keeps}
 use Rattle.bench.specs.Tasks.{task_at}
 use Rattle.bench.specs.Follows.{declared_at, Differs, Declares, standing, added}

@@ -1,6 +1,6 @@
 -- Calls that must be granted.
-use Rattle.std.proofs.Common.{◌≡◌, ℕ, Bool, true, false, not, eqb, List, is_ok, Ok, Err, Result, sym, refl, ap, ◌∙◌, subst, arith}
-use mathlib.Core.Option.{Option, none, some}
+use Rattle.std.proofs.Common.{◌≡◌, ℕ, true, false, List, is_ok, Ok, Err, Result, sym, refl, ap, ◌∙◌, subst, arith}
+use mathlib.Core.Option.{Option, none}
 use Rattle.std.proofs.lemmas.Bool.{and_from, eq-eqb, not_from_false}
 use Rattle.kinds.specs.Kinds.{Kind}
 use Rattle.cards.specs.Code.{Card}
@@ -9,9 +9,9 @@ use Rattle.runs.specs.declared.refusal.Refusal.TheVariants.{Unsettled}
 use Rattle.runs.specs.Lines.{any_out, is_out, member}
 use Rattle.runs.specs.Benches as Model
 use Rattle.runs.specs.Benches.{bench, opened, settled}
-use Rattle.runs.specs.Events.{can_close, effect}
+use Rattle.runs.specs.Events.{can_close}
 use Rattle.runs.specs.Calls.{going_state, work_off, close, Answer}
-use Rattle.runs.specs.Tests.{fits_going, fits, own_refusal, refusal}
+use Rattle.runs.specs.Tests.{fits_going, fits, own_refusal}
 use Rattle.runs.specs.Answers.{granted}
 use Rattle.runs.specs.WorkOffs.{ByRefusal}
 use Rattle.runs.specs.Promise.{Rests}

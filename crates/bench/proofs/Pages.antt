@@ -1,5 +1,5 @@
 -- What stands on the page.
-use Rattle.std.proofs.Common.{◌≡◌, ℕ, zero, suc, ◌<◌, Bool, true, false, List, [], ◌∷◌, ◌++◌, length, is_some, Some, None, Ok, vec_items, Option, Result, Vec, sym, refl, ap, ◌∙◌, subst, arith}
+use Rattle.std.proofs.Common.{◌≡◌, ℕ, ◌<◌, Bool, true, List, [], ◌∷◌, ◌++◌, length, is_some, Some, None, Ok, vec_items, Option, Result, Vec, sym, refl, ap, ◌∙◌, subst, arith}
 use Rattle.std.specs.Option.{option_map}
 use Rattle.std.specs.List.{slice_get}
 use Rattle.std.specs.declared.alloc.AllocError.{AllocError}
@@ -11,7 +11,7 @@ use Rattle.working.specs.Tasks.{Task}
 use Rattle.working.specs.Works.{ranks_of}
 use Rattle.sheets.specs.Sheets.{run_sheet, fault_sheet, outcome_sheet}
 use Rattle.sheets.specs.Appends.{Appends}
-use Rattle.runs.specs.Lines.{Status, waiting, out, stuck, Member, member}
+use Rattle.runs.specs.Lines.{Member, member}
 use Rattle.runs.specs.Benches.{bench, stuck_outcome, line_outcome, outcome}
 use Rattle.runs.specs.BenchSheets.{settled_sheet, bench_sheet}
 use Rattle.tasks.proofs.Numbered.{some_at}

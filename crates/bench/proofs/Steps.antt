@@ -1,16 +1,15 @@
 -- A step by the code is a step of the model.
-use Rattle.std.proofs.Common.{◌≡◌, ℕ, zero, suc, ◌+◌, ◌<◌, ◌≤◌, Bool, true, false, List, [], ◌∷◌, ◌++◌, length, set, is_some, Some, None, Option, sym, refl, ap, ◌∙◌, subst, arith}
+use Rattle.std.proofs.Common.{◌≡◌, ℕ, ◌+◌, ◌<◌, ◌≤◌, Bool, true, false, List, [], ◌∷◌, ◌++◌, length, set, is_some, Some, None, Option, sym, refl, ap, ◌∙◌, subst, arith}
 use mathlib.Core.Option.{Option as Maybe, some, Option-elim}
 use Rattle.std.specs.List.{slice_get}
 use Rattle.std.proofs.lemmas.List.{length-set, length-append}
-use Rattle.std.proofs.iter.runs.Lists.{slice_get_within}
 use Rattle.kinds.specs.Kinds.{Kind}
 use Rattle.working.specs.declared.declared.Declared.{Declared}
 use Rattle.working.specs.Tasks.{Task, level}
-use Rattle.working.specs.Requests.{Next, leaves, goes, makes, Request, fault, quiet, read, write, join, request, stored, Reply, faulted, stepped, reply}
-use Rattle.working.specs.Serial.{segment, made_by}
+use Rattle.working.specs.Requests.{goes, makes, Request, fault, quiet, read, write, join, request, stored, Reply, faulted, stepped, reply}
+use Rattle.working.specs.Serial.{segment}
 use Rattle.working.proofs.Fine.{Within, fine_reply}
-use Rattle.runs.specs.Lines.{Status, out, stuck, Member, member, with_status, find, replace}
+use Rattle.runs.specs.Lines.{Status, out, Member, member, with_status, find, replace}
 use Rattle.runs.specs.Benches.{Bench, bench}
 use Rattle.runs.specs.Steps.{marked, after_reply, replied, step, put, advanced}
 use Rattle.runs.specs.declared.refusal.Refusal.TheVariants.{Foreign}

@@ -1,5 +1,5 @@
 -- Turns that are taken and performed, until the run is settled.
-use Rattle.std.proofs.Common.{◌≡◌, ℕ, ◌<◌, true, false, List, sym, refl, ap, ◌∙◌, subst, ap₂}
+use Rattle.std.proofs.Common.{◌≡◌, ℕ, ◌<◌, true, false, List, sym, refl, ap, ◌∙◌, subst}
 use Rattle.kinds.specs.Kinds.{Kind}
 use Rattle.runs.specs.Lines.{out}
 use Rattle.runs.specs.Benches as Model

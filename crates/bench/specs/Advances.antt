@@ -4,7 +4,6 @@ use Rattle.kinds.specs.Kinds.{Kind}
 use Rattle.runs.specs.Steps.{advanced}
 use Rattle.runs.specs.Answers.{step_answer}
 use Rattle.tasks.specs.declared.step.Progress.{Progress}
-use Rattle.tasks.specs.declared.step.Progress.TheVariants as Progress
 use Rattle.bench.specs.declared.bench.Bench.{Bench}
 use Rattle.bench.specs.declared.answers.Performed.{Performed}
 use Rattle.bench.specs.declared.answers.Performed.TheVariants.{Done, Fault}

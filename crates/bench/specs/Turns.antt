@@ -3,7 +3,7 @@ use Rattle.std.specs.Prelude.{◌≡◌, ℕ, ◌<◌, true, false, List, [], le
 use Rattle.std.proofs.Math.Option.{some}
 use Rattle.kinds.specs.Kinds.{Kind}
 use Rattle.runs.specs.declared.refusal.Refusal.{Refusal}
-use Rattle.runs.specs.Lines.{out, Member, member, find, any_out}
+use Rattle.runs.specs.Lines.{out, Member, find, any_out}
 use Rattle.runs.specs.Ready.{ready}
 use Rattle.runs.specs.Benches.{offer, settled}
 use Rattle.runs.specs.Steps.{put}

@@ -1,6 +1,5 @@
 -- What values of the types stand for.
-use Rattle.std.specs.Prelude.{ℕ, length, Ok, Err, Result}
-use Rattle.working.specs.declared.fault.FaultKind.{FaultKind}
+use Rattle.std.specs.Prelude.{length, Ok, Err, Result}
 use Rattle.runs.specs.declared.refusal.Refusal.{Refusal}
 use Rattle.runs.specs.Benches as Model
 use Rattle.runs.specs.Calls as Call

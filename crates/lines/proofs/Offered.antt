@@ -1,5 +1,5 @@
 -- What is offered can be taken, and a task that has its turn out stands in the line.
-use Rattle.std.proofs.Common.{◌≡◌, ℕ, ◌<◌, Bool, true, false, ◌&&◌, List, length, get_or, vec_items, filter, sym, refl, ap, ◌∙◌, subst, arith}
+use Rattle.std.proofs.Common.{◌≡◌, ℕ, ◌<◌, true, false, List, length, get_or, vec_items, filter, sym, refl, ap, ◌∙◌, subst, arith}
 use mathlib.Core.Option.{some}
 use Rattle.std.proofs.ByRecursion.{All-get_or, kept_by_passes}
 use Rattle.std.proofs.lemmas.Bool.{and_parts, and_from}

@@ -1,5 +1,4 @@
 -- The refusals of a text: each case's number, line and word.
-use Rattle.std.proofs.Math.Option.{Option}
 use Rattle.std.specs.Prelude.{ℕ, Some, None}
 use Rattle.words.specs.declared.tokens.Place.{Place}
 use Rattle.words.specs.declared.fault.WordFault.{WordFault}

@@ -17,7 +17,7 @@ use Rattle.loading.specs.declared.blocks.SectionKind.TheVariants as S
 use Rattle.loading.specs.Lines as Lines
 use Rattle.loading.specs.Lines.{Line}
 use Rattle.loading.specs.Texts.{Said, section}
-use Rattle.loading.specs.Blocks.{Out, got, more, close, declaration, declared_in, mark, read_section, closer, statement_by, read_block}
+use Rattle.loading.specs.Blocks.{got, more, close, declaration, declared_in, mark, read_section, closer, statement_by, read_block}
 use Rattle.loading.specs.Headers.{Header}
 use Rattle.loading.specs.Loading.{accepted, header_lines, read_body, reading}
 use Rattle.written.specs.Written.{opening, declaration_lines, block_lines, inner_lines, body_lines, lines_text, card_text}

@@ -1,11 +1,11 @@
-use Rattle.std.proofs.Common.{◌≡◌, ℕ, true, List, ◌++◌, length, take, Ok, vec_items, Result, sym, refl, ap, ◌∙◌, subst, arith}
+use Rattle.std.proofs.Common.{◌≡◌, ℕ, List, ◌++◌, length, take, Ok, Result, sym, ap, ◌∙◌, subst, arith}
 use lib.ListN.{length-replicate}
 use Rattle.std.proofs.lemmas.List.{take_at}
 use Rattle.std.proofs.lemmas.Result.{err_from_is_err_and}
 use Rattle.kinds.specs.Kinds.{Kind}
 use Rattle.cards.specs.Cards.{card_of}
 use Rattle.sheets.specs.Sheets.{sheet_of}
-use Rattle.bench.specs.Views.{bench_of, going_of, closed_of, IfGranted}
+use Rattle.bench.specs.Views.{bench_of, IfGranted}
 use Rattle.bench.specs.Ends.{WorksAll, Closes}
 use Rattle.bench.specs.Sheets.{SerialSheet, Writes}
 use Rattle.bench.proofs.Granted.{work_off_ok, close_ok}

@@ -1,9 +1,9 @@
-use Rattle.std.proofs.Common.{◌≡◌, Bool, true, false, eqb, length, sym, refl, ap, ◌∙◌, arith}
+use Rattle.std.proofs.Common.{◌≡◌, true, eqb, length, sym, refl, ap, ◌∙◌, arith}
 use Rattle.std.proofs.lemmas.Bool.{and_parts}
 use Rattle.runs.specs.Lines.{waiting, out}
 use Rattle.runs.specs.Benches as Model
 use Rattle.runs.specs.Benches.{bench}
-use Rattle.runs.specs.Events.{has_turn, handed_back, effect}
+use Rattle.runs.specs.Events.{effect}
 use Rattle.runs.specs.Left.{weight}
 use Rattle.runs.specs.Calls.{hand_back, Answer}
 use Rattle.runs.specs.Tests.{fits_turn, fits, own_refusal}

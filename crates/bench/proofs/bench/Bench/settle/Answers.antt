@@ -1,4 +1,4 @@
-use Rattle.std.proofs.Common.{◌≡◌, ◌<◌, sym, ◌∙◌, subst}
+use Rattle.std.proofs.Common.{◌≡◌, sym, ◌∙◌, subst}
 use Rattle.runs.specs.Benches.{bench, settled}
 use Rattle.tasks.specs.Views.{tasks_of}
 use Rattle.bench.specs.Tasks.{task_at}

@@ -1,7 +1,6 @@
-use Rattle.std.proofs.Common.{◌≡◌, ℕ, true, eqb, leb, List, ◌++◌, length, drop, vec_items, vec_len, sym, refl, ap, ◌∙◌, ap₂, arith}
+use Rattle.std.proofs.Common.{◌≡◌, ℕ, eqb, List, ◌++◌, length, drop, sym, refl, ap, ◌∙◌, ap₂, arith}
 use mathlib.Core.Option.{none, some}
 use Rattle.std.proofs.lemmas.Bool.{both_ways, and_parts, lt-leb, le-leb}
-use Rattle.sheets.specs.Sheets.{sheet_of}
 use Rattle.runs.specs.declared.refusal.Refusal.TheVariants.{BufferTooShort}
 use Rattle.runs.specs.Benches.{bench}
 use Rattle.runs.specs.BenchSheets.{bench_sheet}

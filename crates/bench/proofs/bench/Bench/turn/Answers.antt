@@ -17,7 +17,7 @@ use Rattle.bench.specs.Tasks.{task_at}
 use Rattle.bench.specs.Views.{bench_of}
 use Rattle.bench.specs.Advances.{come_of, steps_of}
 use Rattle.bench.specs.Ends.{AtWork}
-use Rattle.bench.proofs.Picks.{unsettled_offers, chosen_below, picks_some, place_is, place_below}
+use Rattle.bench.proofs.Picks.{unsettled_offers, picks_some, place_is, place_below}
 use Rattle.bench.proofs.Steps.{some_step, step_of, one_step, within_after, fits_line, still_told, still_numbered, still_sized, turn_steps}
 use Rattle.bench.proofs.Worked.{turned_is, turned_on, turned_run, turned_falls}
 use Rattle.bench.proofs.bench.Bench.turn.Given as given
