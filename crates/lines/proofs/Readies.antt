@@ -16,7 +16,7 @@ use Rattle.lines.specs.declared.clear.Clear.{Clear}
 use Rattle.lines.specs.declared.state.State.{State}
 use Rattle.lines.specs.declared.state.State.TheVariants.{Finished, Waiting, Out, Stuck}
 use Rattle.lines.specs.States.{is_finished, is_waiting, status_of}
-use Rattle.lines.specs.States.{is_out as is-out-state}
+use Rattle.lines.specs.States.{is_out as is_out_state}
 use Rattle.lines.specs.Rows.{itself, absent, apart, below}
 use Rattle.lines.specs.Stored.{declared_in, state_at, member_at, members_at}
 use Rattle.lines.specs.Clears.{at_first, past, lets, clear_from, clear_in}
@@ -29,7 +29,7 @@ use Rattle.lines.proofs.Queued.{AllQueued, Told, on_told, queue_stored}
 use Rattle.lines.proofs.Members.{number_at, find_there, find_none}
 use Rattle.lines.proofs.Unfinished.{Unfinished}
 
--- the immediate declarations of d are clear, where c says so of what clear-from in front, and x, y and z of what comes then
+-- the immediate declarations of d are clear, where c says so of what clear_from in front, and x, y and z of what comes then
 abbrev three : Clear → Declared → Bool → Bool → Bool → Bool
 three c d x y z = (not (is_immediate d.reads) || (c.reads && x)) && ((not (is_immediate d.writes) || (c.writes && y)) && (not (is_immediate d.commutes) || (c.commutes && z)))
 
@@ -141,18 +141,18 @@ module _ (qs : List (List Entry)) (ss : List State) (ns : List ℕ) (t : ℕ →
       ∙ sym (each_same (length qs) (λ o. clear_from n at_first (get_or qs o [])) (λ o. clear_for line (member_at ss t n) o Rd && (clear_for line (member_at ss t n) o Wr && clear_for line (member_at ss t n) o Cm)) (one_object n here)))
 
   -- a turn that is out is of a ready task
-  pub out_ready : Unfinished ss ns → ((n : ℕ) → is-out-state (state_at ss n) ≡ true → clear_in qs n ≡ true) → (n : ℕ) → is-out-state (state_at ss n) ≡ true → ready line (member n out (t n)) ≡ true
+  pub out_ready : Unfinished ss ns → ((n : ℕ) → is_out_state (state_at ss n) ≡ true → clear_in qs n ≡ true) → (n : ℕ) → is_out_state (state_at ss n) ≡ true → ready line (member n out (t n)) ≡ true
   unfolding member_at is_stuck
   out_ready left turns n e = go (state_at ss n) refl e
     where
-      go : (s : State) → state_at ss n ≡ s → is-out-state s ≡ true → ready line (member n out (t n)) ≡ true
+      go : (s : State) → state_at ss n ≡ s → is_out_state s ≡ true → ready line (member n out (t n)) ≡ true
       go Finished q e = absurd (both_ways false refl e)
       go Waiting q e = absurd (both_ways false refl e)
       go (Stuck f l) q e = absurd (both_ways false refl e)
       go Out q e =
           ap (λ (x : State). ready line (member n (status_of x) (t n))) (sym q)
           ∙ ready_is n (left n ∙ ap is_finished q)
-          ∙ ap₂ (λ (x : State) (b : Bool). not (is_stuck (status_of x)) && b) q (turns n (ap is-out-state q))
+          ∙ ap₂ (λ (x : State) (b : Bool). not (is_stuck (status_of x)) && b) q (turns n (ap is_out_state q))
 
   -- ready, with no turn out: a task that waits and is clear
   waits : (s : State) (x : Bool) → is_finished s ≡ false → ((not (is_stuck (status_of s)) && x) && not (is_out (status_of s))) ≡ (is_waiting s && x)

@@ -27,7 +27,7 @@ abbrev pub turn_of : ℕ → ℕ → Turn
 turn_of r n = record { run = r; task = n }
 
 -- A call may be given the states and turns of any bench.
--- take: under a scheduler's choice; look: an object's entry at a place; work-off: under choices, one for each pick;
+-- take: under a scheduler's choice; look: an object's entry at a place; work_off: under choices, one for each pick;
 -- sheet: into a buffer
 pub data Call : Type 0 where
   take : Going → (List ℕ → ℕ) → Call

@@ -4,7 +4,7 @@ use Rattle.std.proofs.lemmas.List.{same_lists, length-set, length_push, get_or_p
 use Rattle.std.proofs.lemmas.Bool.{cases_eq}
 
 -- ys is xs without the one at i, in whose place the last stands; zs is ys with y behind; us is zs with the two exchanged
-module _ {A : Type 0} (xs ys zs us : List A) (i n last : ℕ) (y : A) (count : n ≡ length xs) (last-is : last ≡ n - 1)
+module _ {A : Type 0} (xs ys zs us : List A) (i n last : ℕ) (y : A) (count : n ≡ length xs) (last_is : last ≡ n - 1)
     (inside : i < length xs) (shorter : length ys + 1 ≡ length xs)
     (here : (d : A) → i + 1 < n → get_or ys i d ≡ get_or xs (n - 1) d)
     (there : (k : ℕ) (d : A) → (k ≡ i → ⊥) → k + 1 < n → get_or ys k d ≡ get_or xs k d)
@@ -22,7 +22,7 @@ module _ {A : Type 0} (xs ys zs us : List A) (i n last : ℕ) (y : A) (count : n
   elsewhere : (k : ℕ) (d : A) → k < length xs → (k ≡ i → ⊥) → get_or us k d ≡ get_or xs k d
   elsewhere k d h h' =
       ⊎_elim
-      (λ (e : k ≡ last). ap (λ (j : ℕ). get_or us j d) e ∙ second d ∙ before_last i d (omega (arith, h')) ∙ here d (omega (arith, h')) ∙ ap (λ (j : ℕ). get_or xs j d) (sym (e ∙ last-is)))
+      (λ (e : k ≡ last). ap (λ (j : ℕ). get_or us j d) e ∙ second d ∙ before_last i d (omega (arith, h')) ∙ here d (omega (arith, h')) ∙ ap (λ (j : ℕ). get_or xs j d) (sym (e ∙ last_is)))
       (λ (e : k ≡ last → ⊥). other k d h' e ∙ before_last k d (omega (arith, e)) ∙ there k d h' (omega (arith, e)))
       (cases_eq k last)
 

@@ -27,9 +27,9 @@ held_unless Absent h = absurd (h refl)
 held_unless Deferred h = refl
 held_unless Immediate h = refl
 
-module _ (ps : List ℕ) (xs : List Declaration) (i : ℕ) (x d : Declaration) (in-range : i < length xs) (is : x ≡ get_or xs i d) where
+module _ (ps : List ℕ) (xs : List Declaration) (i : ℕ) (x d : Declaration) (in_range : i < length xs) (is : x ≡ get_or xs i d) where
   rest_is : drop i xs ≡ x ∷ drop (suc i) xs
-  rest_is = drop-cons xs i d in-range ∙ ap (λ (y : Declaration). y ∷ drop (suc i) xs) (sym is)
+  rest_is = drop-cons xs i d in_range ∙ ap (λ (y : Declaration). y ∷ drop (suc i) xs) (sym is)
 
   pub amend_stops : (ds : List Declared) → held (level ds (get_or ps x.pointer 0) x.access) ≡ false → amended ps ds (drop i xs) ≡ refused x.line
   amend_stops ds f = ap (amended ps ds) rest_is ∙ cond-false (held (level ds (get_or ps x.pointer 0) x.access)) _ _ f

@@ -32,12 +32,12 @@ own_fits b n e = and_from _ _ (eq-eqb b.run b.run refl) e
 pub returns-then-not-admits : goal.returns-then-not-admits
 unfolding fits
 returns-then-not-admits g c =
-    let out-of-place = sym c.admits.ensures ∙ c.if-not-admits.true in
+    let out_of_place = sym c.admits.ensures ∙ c.if-not-admits.true in
     record {
-      answers = foreign _ (Call.take (going_of c.args.going.now) (g.S.Scheduler.choice c.args.scheduler.now)) (bench_of c.args.self.now) out-of-place;
+      answers = foreign _ (Call.take (going_of c.args.going.now) (g.S.Scheduler.choice c.args.scheduler.now)) (bench_of c.args.self.now) out_of_place;
       scheduler = refl;
       fits = tt;
-      goes_on = λ e _ _. absurd (both_ways _ out-of-place e);
+      goes_on = λ e _ _. absurd (both_ways _ out_of_place e);
       leads_on = λ _ _ h. h;
       kind = refl;
     }
