@@ -6,7 +6,7 @@ use crate::numbers::{read_number, tail};
 use cards::{Local, Pointer};
 
 // One of a task's words, one of its pointers, or an object.
-#[derive(Clone, Copy)]
+#[derive(Clone, Copy, Debug, PartialEq, Eq)]
 pub enum Name {
     Local(Local),
     Pointer(Pointer),

@@ -9,7 +9,7 @@ fn read_digits(s: &[u8], max: u16) -> Option<u32>
 {
     let mut n: u32 = 0;
     for b in s {
-        if *b < b'0' || *b > b'9' {
+        if !b.is_ascii_digit() {
             return None;
         }
         n = 10 * n + (*b - b'0') as u32;
