@@ -1,16 +1,17 @@
 // Reads the lines before the lines section.
 ghost use Rattle.std.specs.Prelude.{◌≡◌, ◌+◌, ◌≤◌, [], IfOk, vec_len, OnOk};
-ghost use Rattle.words.specs.Tokens.{words, seen};
+ghost use Rattle.words.specs.Tokens.{words};
 ghost use Rattle.loading.specs.Texts.{rest_of, text_number};
+ghost use Rattle.loading.specs.Lines as Lines;
 ghost use Rattle.loading.specs.Headers as Headers;
-ghost use Rattle.loading.specs.Lines.{find};
-ghost use Rattle.loading.specs.Headers.{kinds, orders, kind_name, order_name, bench_form, kind_form, order_form, objects_form, lines_form, literal_form, literals_after, HeaderLine, HeaderIs, literals_of, header_of};
+ghost use Rattle.loading.specs.Headers.{orders, bench_form, kind_form, order_form, objects_form, lines_form, literal_form, literals_after, HeaderLine, HeaderIs, literals_of, header_of};
 
 use crate::cursor::Cursor;
 use crate::refusal::{LineFault, LoadRefusal};
+use crate::tables::{KINDS, ORDERS, find};
 use cards::{KindName, OrderName};
 use std::alloc::Global;
-use words::{Token, WordFault, same, tokenize};
+use words::{WordFault, tokenize};
 
 // What the header says.
 #[derive(Drop)]
@@ -19,54 +20,6 @@ pub struct Header {
     pub order: OrderName,
     pub words: Vec<i16>,
     pub lines: u16,
-}
-
-fn find_kind(s: &[u8]) -> Option<KindName>
-    ensures { result ≡ find kinds s.now }
-{
-    if same(s, b"tally") {
-        return Some(KindName::Tally);
-    }
-    if same(s, b"flags") {
-        return Some(KindName::Flags);
-    }
-    None
-}
-
-fn find_order(s: &[u8]) -> Option<OrderName>
-    ensures { result ≡ find orders s.now }
-{
-    if same(s, b"first") {
-        return Some(OrderName::First);
-    }
-    if same(s, b"last") {
-        return Some(OrderName::Last);
-    }
-    if same(s, b"turns") {
-        return Some(OrderName::Turns);
-    }
-    if same(s, b"narrow") {
-        return Some(OrderName::Narrow);
-    }
-    None
-}
-
-fn read_kind(t: Token<'_>) -> Result<KindName, WordFault>
-    ensures { result ≡ kind_name (seen t.entry) }
-{
-    match t {
-        Token::Word { bytes, place } => find_kind(bytes).ok_or(WordFault::Unfit(place)),
-        Token::Absent { place } => Err(WordFault::Missing(place)),
-    }
-}
-
-fn read_order(t: Token<'_>) -> Result<OrderName, WordFault>
-    ensures { result ≡ order_name (seen t.entry) }
-{
-    match t {
-        Token::Word { bytes, place } => find_order(bytes).ok_or(WordFault::Unfit(place)),
-        Token::Absent { place } => Err(WordFault::Missing(place)),
-    }
 }
 
 // The forms of the header's lines.
@@ -85,7 +38,7 @@ fn kind_words(bytes: &[u8], line: u32) -> Result<KindName, WordFault>
 {
     let t = tokenize(bytes, line);
     t.first.exactly(b"kind")?;
-    let kind = read_kind(t.second)?;
+    let kind = t.second.read(|word| find(&KINDS, word))?;
     t.third.nothing()?;
     Ok(kind)
 }
@@ -95,7 +48,11 @@ fn order_words(bytes: &[u8], line: u32) -> Result<OrderName, WordFault>
 {
     let t = tokenize(bytes, line);
     t.first.exactly(b"order")?;
-    let order = read_order(t.second)?;
+    let order = t.second.read(
+        |word|
+            ensures { result ≡ Lines.find orders word.now }
+        { find(&ORDERS, word) },
+    )?;
     t.third.nothing()?;
     Ok(order)
 }
