@@ -2,13 +2,12 @@
 ghost use Rattle.std.specs.Prelude.{◌≡◌, ◌+◌, ◌≤◌, [], IfOk, vec_len, OnOk};
 ghost use Rattle.words.specs.Tokens.{words};
 ghost use Rattle.loading.specs.Texts.{rest_of, text_number};
-ghost use Rattle.loading.specs.Lines as Lines;
 ghost use Rattle.loading.specs.Headers as Headers;
-ghost use Rattle.loading.specs.Headers.{orders, bench_form, kind_form, order_form, objects_form, lines_form, literal_form, literals_after, HeaderLine, HeaderIs, literals_of, header_of};
+ghost use Rattle.loading.specs.Headers.{bench_form, kind_form, order_form, objects_form, lines_form, literal_form, literals_after, HeaderLine, HeaderIs, literals_of, header_of};
 
 use crate::cursor::Cursor;
 use crate::refusal::{LineFault, LoadRefusal};
-use crate::tables::{KINDS, ORDERS, find};
+use crate::tables::{KINDS, ORDERS, named};
 use cards::{KindName, OrderName};
 use std::alloc::Global;
 use words::{WordFault, tokenize};
@@ -38,7 +37,7 @@ fn kind_words(bytes: &[u8], line: u32) -> Result<KindName, WordFault>
 {
     let t = tokenize(bytes, line);
     t.first.exactly(b"kind")?;
-    let kind = t.second.read(|word| find(&KINDS, word))?;
+    let kind = named(t.second, &KINDS)?;
     t.third.nothing()?;
     Ok(kind)
 }
@@ -48,11 +47,7 @@ fn order_words(bytes: &[u8], line: u32) -> Result<OrderName, WordFault>
 {
     let t = tokenize(bytes, line);
     t.first.exactly(b"order")?;
-    let order = t.second.read(
-        |word|
-            ensures { result ≡ Lines.find orders word.now }
-        { find(&ORDERS, word) },
-    )?;
+    let order = named(t.second, &ORDERS)?;
     t.third.nothing()?;
     Ok(order)
 }

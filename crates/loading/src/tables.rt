@@ -1,9 +1,12 @@
 // The words that a line may begin with, and those that name a kind or an order.
 ghost use Rattle.std.specs.Prelude.{◌≡◌};
+ghost use Rattle.words.specs.Tokens.{seen};
+ghost use Rattle.words.specs.Reading.{read_by};
 ghost use Rattle.loading.specs.Lines as Lines;
 
 use crate::line::{Keyword, Verb};
 use cards::{Access, KindName, Level, OrderName};
+use words::{Token, WordFault};
 
 pub(crate) const KINDS: [(&[u8], KindName); 2] = [
     (b"tally", KindName::Tally),
@@ -60,4 +63,11 @@ pub(crate) fn find<T: Copy>(table: &[(&[u8], T)], word: &[u8]) -> Option<T>
         }
     }
     None
+}
+
+// What the word at a place names in a table, or its fault.
+pub(crate) fn named<T: Copy>(token: Token<'_>, table: &[(&[u8], T)]) -> Result<T, WordFault>
+    ensures { result ≡ read_by (Lines.find (Lines.entries table.now)) (seen token.entry) }
+{
+    token.read(|word| find(table, word))
 }
