@@ -1,5 +1,5 @@
 // Reads the lines before the lines section.
-ghost use Rattle.std.specs.Prelude.{◌≡◌, ◌+◌, ◌≤◌, [], Ok, Result, IfOk, vec_len, OnOk};
+ghost use Rattle.std.specs.Prelude.{◌≡◌, ◌+◌, [], Ok, Result, IfOk, vec_len, OnOk};
 ghost use Rattle.words.specs.declared.fault.WordFault.{WordFault};
 ghost use Rattle.words.specs.declared.tokens.Token.{Token};
 ghost use Rattle.words.specs.Tokens.{Seen, seen};
@@ -9,19 +9,11 @@ ghost use Rattle.loading.specs.Lines.{find};
 ghost use Rattle.loading.specs.Headers.{kinds, orders, kind_name, order_name, literal_form, literals_after, worded_form, HeaderLine, HeaderIs, literals_of, header_of};
 
 use crate::cursor::Cursor;
+use crate::head::Header;
 use crate::refusal::{LineFault, LoadRefusal};
 use cards::{KindName, OrderName};
 use std::alloc::Global;
 use words::{Token, WordFault, same, tokenize};
-
-// What the header says.
-#[derive(Drop)]
-pub struct Header {
-    pub kind: KindName,
-    pub order: OrderName,
-    pub words: Vec<i16>,
-    pub lines: u16,
-}
 
 fn find_kind(s: &[u8]) -> Option<KindName>
     ensures { result ≡ find kinds s.now }
@@ -119,8 +111,6 @@ pub(crate) fn read_header(heap: Global, lines: &mut Cursor<'_>) -> Result<Header
     requires { text_number lines.old ≡ 1 }
     ensures value { HeaderIs header_of result (Headers.read_header (rest_of lines.old)) lines.new }
     ensures number { IfOk result (λ h. text_number lines.new ≡ 6 + vec_len h.words) }
-    ensures objects { IfOk result (λ h. (1 ≤ vec_len h.words) × (vec_len h.words ≤ 16)) }
-    ensures lines { IfOk result (λ h. h.lines ≤ 256) }
 {
     worded_line(lines, b"bench", |t: Token<'_>| t.exactly(b"2"))?;
     let kind = worded_line(lines, b"kind", read_kind)?;
