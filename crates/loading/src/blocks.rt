@@ -67,7 +67,8 @@ fn in_section(said: Line, kind: SectionKind, number: u32) -> Result<Option<Decla
     }
 }
 
-// Reads the declarations up to the line that ends the section.
+// Reads the declarations up to the line that ends the section. Each reader says how far it moved the cursor: that ties
+// two values, so it is a clause and in no type.
 fn read_section(
     heap: Global,
     lines: &mut Cursor<'_>,

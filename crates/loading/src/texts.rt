@@ -36,6 +36,7 @@ impl<'a> Cursor<'a> {
     }
 
     // What the next line of the lines section says, or nothing after the last.
+    #[tactic(auto, using(crate::proofs::Sections::section_none), unfolding(crate::specs::Texts::upcoming))]
     pub(crate) fn next(&mut self) -> Result<Option<Line>, LineFault>
         ensures { Nexts result self.old self.new }
     {

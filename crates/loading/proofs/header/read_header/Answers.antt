@@ -1,4 +1,4 @@
-use Rattle.std.proofs.Common.{◌≡◌, ◌∙◌, arith, rules, codes}
+use Rattle.std.proofs.Common.{arith, rules, codes}
 use Rattle.std.proofs.lemmas.Result.{err_from_is_err_and}
 use Rattle.words.specs.Reading.{exact, as_number}
 use Rattle.loading.specs.Headers.{kind_name, order_name, bench_form, kind_form, order_form, objects_form, lines_form, header_of}
