@@ -5,63 +5,14 @@ ghost use Rattle.words.specs.declared.tokens.Token.{Token};
 ghost use Rattle.words.specs.Tokens.{Seen, seen};
 ghost use Rattle.loading.specs.Texts.{rest_of, text_number};
 ghost use Rattle.loading.specs.Headers as Headers;
-ghost use Rattle.loading.specs.Lines.{find};
-ghost use Rattle.loading.specs.Headers.{kinds, orders, kind_name, order_name, literal_form, literals_after, worded_form, HeaderLine, HeaderIs, literals_of, header_of};
+ghost use Rattle.loading.specs.Headers.{literal_form, literals_after, worded_form, HeaderLine, HeaderIs, literals_of, header_of};
 
 use crate::cursor::Cursor;
 use crate::head::Header;
 use crate::refusal::{LineFault, LoadRefusal};
-use cards::{KindName, OrderName};
+use crate::tables::{KINDS, ORDERS, named};
 use std::alloc::Global;
-use words::{Token, WordFault, same, tokenize};
-
-fn find_kind(s: &[u8]) -> Option<KindName>
-    ensures { result ≡ find kinds s.now }
-{
-    if same(s, b"tally") {
-        return Some(KindName::Tally);
-    }
-    if same(s, b"flags") {
-        return Some(KindName::Flags);
-    }
-    None
-}
-
-fn find_order(s: &[u8]) -> Option<OrderName>
-    ensures { result ≡ find orders s.now }
-{
-    if same(s, b"first") {
-        return Some(OrderName::First);
-    }
-    if same(s, b"last") {
-        return Some(OrderName::Last);
-    }
-    if same(s, b"turns") {
-        return Some(OrderName::Turns);
-    }
-    if same(s, b"narrow") {
-        return Some(OrderName::Narrow);
-    }
-    None
-}
-
-fn read_kind(t: Token<'_>) -> Result<KindName, WordFault>
-    ensures { result ≡ kind_name (seen t.entry) }
-{
-    match t {
-        Token::Word { bytes, place } => find_kind(bytes).ok_or(WordFault::Unfit(place)),
-        Token::Absent { place } => Err(WordFault::Missing(place)),
-    }
-}
-
-fn read_order(t: Token<'_>) -> Result<OrderName, WordFault>
-    ensures { result ≡ order_name (seen t.entry) }
-{
-    match t {
-        Token::Word { bytes, place } => find_order(bytes).ok_or(WordFault::Unfit(place)),
-        Token::Absent { place } => Err(WordFault::Missing(place)),
-    }
-}
+use words::{Token, WordFault, tokenize};
 
 // The next line: a fixed word, one word more as `read` reads it, and no other.
 fn worded_line<T: Drop, F: FnOnce(Token<'_>) -> Result<T, WordFault>>(
@@ -113,8 +64,8 @@ pub(crate) fn read_header(heap: Global, lines: &mut Cursor<'_>) -> Result<Header
     ensures number { IfOk result (λ h. text_number lines.new ≡ 6 + vec_len h.words) }
 {
     worded_line(lines, b"bench", |t: Token<'_>| t.exactly(b"2"))?;
-    let kind = worded_line(lines, b"kind", read_kind)?;
-    let order = worded_line(lines, b"order", read_order)?;
+    let kind = worded_line(lines, b"kind", |t: Token<'_>| named(t, &KINDS))?;
+    let order = worded_line(lines, b"order", |t: Token<'_>| named(t, &ORDERS))?;
     let objects = worded_line(lines, b"objects", |t: Token<'_>| t.number(1, 16))?;
     let words = read_literals(heap, lines, objects)?;
     let count = worded_line(lines, b"lines", |t: Token<'_>| t.number(0, 256))?;

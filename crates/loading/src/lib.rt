@@ -12,6 +12,7 @@ mod line;
 mod read_line;
 mod refusal;
 mod slot;
+mod tables;
 mod tell;
 mod texts;
 
