@@ -63,12 +63,12 @@ pub(crate) fn read_header(heap: Global, lines: &mut Cursor<'_>) -> Result<Header
     ensures value { HeaderIs header_of result (Headers.read_header (rest_of lines.old)) lines.new }
     ensures number { IfOk result (λ h. text_number lines.new ≡ 6 + vec_len h.words) }
 {
-    worded_line(lines, b"bench", |t: Token<'_>| t.exactly(b"2"))?;
-    let kind = worded_line(lines, b"kind", |t: Token<'_>| named(t, &KINDS))?;
-    let order = worded_line(lines, b"order", |t: Token<'_>| named(t, &ORDERS))?;
-    let objects = worded_line(lines, b"objects", |t: Token<'_>| t.number(1, 16))?;
+    worded_line(lines, b"bench", |word| word.exactly(b"2"))?;
+    let kind = worded_line(lines, b"kind", |word| named(word, &KINDS))?;
+    let order = worded_line(lines, b"order", |word| named(word, &ORDERS))?;
+    let objects = worded_line(lines, b"objects", |word| word.number(1, 16))?;
     let words = read_literals(heap, lines, objects)?;
-    let count = worded_line(lines, b"lines", |t: Token<'_>| t.number(0, 256))?;
+    let count = worded_line(lines, b"lines", |word| word.number(0, 256))?;
     Ok(Header {
         kind,
         order,
