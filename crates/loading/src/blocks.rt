@@ -1,5 +1,5 @@
 // Reads the blocks and statements of the lines section.
-ghost use Rattle.std.specs.Prelude.{◌≡◌, ℕ, ◌+◌, ◌-◌, ◌<◌, length, IfErr, MatchResult, OnOk};
+ghost use Rattle.std.specs.Prelude.{◌≡◌, ℕ, ◌+◌, ◌-◌, ◌<◌, [], length, IfErr, MatchResult, OnOk};
 ghost use Rattle.cards.specs.Trees.{statement_of};
 ghost use Rattle.loading.specs.declared.refusal.LineFault.TheVariants.{Misplaced, TooDeep};
 ghost use Rattle.loading.specs.Lines.{line_of};
@@ -67,15 +67,17 @@ fn in_section(said: Line, kind: SectionKind, number: u32) -> Result<Option<Decla
     }
 }
 
-// Reads the declarations up to the line that ends the section, after those of `section`.
+// Reads the declarations up to the line that ends the section. Each reader says how far it moved the cursor: that ties
+// two values, so it is a clause and in no type.
 fn read_section(
+    heap: Global,
     lines: &mut Cursor<'_>,
     kind: SectionKind,
-    mut section: Section,
 ) -> Result<Section, LoadRefusal>
-    ensures value { AnswerIs section_of result (read_section lines.old.header kind (section_of section) (upcoming lines.old) lines.old.line) lines.new }
+    ensures value { AnswerIs section_of result (read_section lines.old.header kind [] (upcoming lines.old) lines.old.line) lines.new }
     ensures forward { OnOk result (Forward lines.old lines.new) }
 {
+    let mut section = Section::new(heap);
     loop {
         let number = lines.number();
         let line = lines.line;
@@ -196,13 +198,13 @@ fn read_statement(
         }
         Line::Keyword(Keyword::Task) => {
             let depth = inner_depth(depth, number)?;
-            let section = read_section(lines, SectionKind::Task, Section::new(heap))?;
+            let section = read_section(heap, lines, SectionKind::Task)?;
             let (body, closer) = read_block(heap, lines, depth)?;
             ended(closer, lines.number())?;
             Ok(Statement::Task { section, body })
         }
         Line::Keyword(Keyword::With) => {
-            let section = read_section(lines, SectionKind::With, Section::new(heap))?;
+            let section = read_section(heap, lines, SectionKind::With)?;
             Ok(Statement::With { section })
         }
         Line::Declare { .. } | Line::Keyword(_) => {

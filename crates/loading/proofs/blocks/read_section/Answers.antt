@@ -4,7 +4,7 @@ use Rattle.loading.proofs.Readers.{section_open, section_fault, section_closes, 
 use Rattle.loading.proofs.blocks.read_section.Goals as goal
 
 pub loop-section-init : goal.loop-section-init
-loop-section-init c = record { value = refl; forward = record { fewer = omega arith; header = refl; objects = refl } }
+loop-section-init c = record { value = rw c.new-section.ensures refl; forward = record { fewer = omega arith; header = refl; objects = refl } }
 
 pub returns-in_err-next : goal.returns-in_err-next
 returns-in_err-next c =

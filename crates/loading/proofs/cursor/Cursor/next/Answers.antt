@@ -1,16 +1,8 @@
-use Rattle.std.proofs.Common.{arith, rules}
+use Rattle.std.proofs.Common.{arith}
 use Rattle.std.proofs.lemmas.Result.{err_from_is_err_and}
 use Rattle.loading.specs.Texts.{upcoming}
-use Rattle.loading.proofs.Sections.{section_none, section_stops, section_unfit, section_says}
+use Rattle.loading.proofs.Sections.{section_stops, section_unfit, section_says}
 use Rattle.loading.proofs.cursor.Cursor.next.Goals as goal
-
-pub returns-then-is_empty : goal.returns-then-is_empty
-unfolding upcoming
-returns-then-is_empty c = search (rules, section_none)
-
-pub returns-then-self-eq0 : goal.returns-then-self-eq0
-unfolding upcoming
-returns-then-self-eq0 c = search (rules, section_none)
 
 pub returns-in_err-bytes : goal.returns-in_err-bytes
 unfolding upcoming
