@@ -1,5 +1,6 @@
 -- What serial working answers.
 use Rattle.std.specs.Prelude.{◌≡◌, ℕ, ◌≤◌, Vec, vec_items, Some, Result, Ok, Err}
+use Rattle.std.specs.declared.alloc.Global.{Global}
 use Rattle.kinds.specs.Kinds.{Kind}
 use Rattle.cards.specs.Code.{Card}
 use Rattle.cards.specs.Bounds.{card_steps, card_tasks}
@@ -8,7 +9,7 @@ use Rattle.working.specs.declared.fault.TaskFault.{TaskFault}
 use Rattle.working.specs.declared.serial.Worked.{Worked}
 use Rattle.working.specs.Works.{ranks_of}
 
-abbrev pub outcome_of : Result (Vec ℕ) TaskFault → Serial.Outcome
+abbrev pub outcome_of : Result (Vec ℕ Global) TaskFault → Serial.Outcome
 outcome_of (Ok v) = Serial.words (vec_items v)
 outcome_of (Err f) = Serial.fault f.fault.kind f.fault.line (ranks_of f.place)
 

@@ -46,20 +46,16 @@ fn assign(ds: &mut [Declared], o: usize, a: Access, level: Level)
 }
 
 // What `with` does to declarations, up to the first that is refused.
-fn amend(
-    pointers: &[u8; 4],
-    ds: &mut [Declared],
-    lines: &[Declaration],
-) -> Result<(), Refused>
+fn amend(pointers: &[u8; 4], ds: &mut [Declared], lines: &[Declaration]) -> Result<(), Refused>
     requires { (i : ℕ) → i < length lines.now → (slice_index_or lines.now i no_declaration).pointer < 4 }
     ensures { amended pointers.now ds.old lines.now ≡ section_of result ds.new }
 {
     for x in lines {
         let o = pointers[x.pointer as usize] as usize;
-        match level(ds, o, x.access) {
-            Level::Absent => return Err(Refused { line: x.line }),
-            _ => assign(ds, o, x.access, x.level),
+        if !level(ds, o, x.access).is_held() {
+            return Err(Refused { line: x.line });
         }
+        assign(ds, o, x.access, x.level);
     }
     Ok(())
 }
@@ -77,10 +73,10 @@ fn endow(
 {
     for x in lines {
         let o = pointers[x.pointer as usize] as usize;
-        match level(maker, o, x.access) {
-            Level::Absent => return Err(Refused { line: x.line }),
-            _ => assign(ds, o, x.access, x.level),
+        if !level(maker, o, x.access).is_held() {
+            return Err(Refused { line: x.line });
         }
+        assign(ds, o, x.access, x.level);
     }
     Ok(())
 }
@@ -111,12 +107,13 @@ impl Record {
         ensures { Reaches self.now p.n a line result }
     {
         let o = self.pointers[p.n as usize] as usize;
-        match level(self.declared(), o, a) {
-            Level::Immediate => Ok(o),
-            _ => Err(Fault {
+        if level(self.declared(), o, a).is_immediate() {
+            Ok(o)
+        } else {
+            Err(Fault {
                 kind: FaultKind::from(a),
                 line,
-            }),
+            })
         }
     }
 

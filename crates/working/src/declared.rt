@@ -14,6 +14,7 @@ impl Declared {
         writes: Level::Absent,
         commutes: Level::Absent,
     };
+
     pub const EVERYTHING: Declared = Declared {
         reads: Level::Deferred,
         writes: Level::Deferred,

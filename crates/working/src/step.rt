@@ -44,28 +44,31 @@ impl Record {
                 work.round(line, left, body, rest);
                 Ok(Stepped::Went)
             }
-            Head::Next { step } => match self.act(kind, store, step)? {
-                Effect::Passes => {
-                    work.pass(&step.rest);
-                    Ok(Stepped::Went)
+            Head::Next { step } => {
+                let effect = self.act(kind, store, step)?;
+                match effect {
+                    Effect::Passes => {
+                        work.pass(&step.rest);
+                        Ok(Stepped::Went)
+                    }
+                    Effect::Amends => {
+                        work.pass(&step.rest);
+                        Ok(Stepped::Amended)
+                    }
+                    Effect::Enters(arm) => {
+                        work.enter(arm, &step.rest);
+                        Ok(Stepped::Went)
+                    }
+                    Effect::Repeats(count, body) => {
+                        work.round(step.line, count, body, &step.rest);
+                        Ok(Stepped::Went)
+                    }
+                    Effect::Makes(child, body) => {
+                        let fresh = work.spawn(body, &step.rest);
+                        Ok(Stepped::Made(child, fresh))
+                    }
                 }
-                Effect::Amends => {
-                    work.pass(&step.rest);
-                    Ok(Stepped::Amended)
-                }
-                Effect::Enters(arm) => {
-                    work.enter(arm, &step.rest);
-                    Ok(Stepped::Went)
-                }
-                Effect::Repeats(count, body) => {
-                    work.round(step.line, count, body, &step.rest);
-                    Ok(Stepped::Went)
-                }
-                Effect::Makes(child, body) => {
-                    let fresh = work.spawn(body, &step.rest);
-                    Ok(Stepped::Made(child, fresh))
-                }
-            },
+            }
         }
     }
 }
