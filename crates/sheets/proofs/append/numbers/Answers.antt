@@ -9,29 +9,29 @@ use Rattle.sheets.proofs.Steps.{nothing, then, stopped, whole_is}
 use Rattle.sheets.proofs.Turns.{begin, onward, finish}
 use Rattle.sheets.proofs.append.numbers.Goals as goal
 
-next : (k : Kind) (ws : List ℕ) (i : ℕ) (z : ℤ) → i < length ws → SFits w64 z → z ≡ k.number (get_or ws i 0) → numbers k (drop i ws) ≡ signed_decimal (to_z w64 (of_z w64 z)) ++ (10 ∷ numbers k (drop (i + 1) ws))
-next k ws i z h f e = ap (numbers k) (drop_more ws i 0 h) ∙ ap (λ x. signed_decimal x ++ (10 ∷ numbers k (drop (i + 1) ws))) (sym e ∙ sym (to_z-of_z w64 z f))
+next : (k : Kind) (ws : List ℕ) (i : ℕ) (z : ℤ) (digits : List ℕ) → i < length ws → SFits w64 z → z ≡ k.number (get_or ws i 0) → digits ≡ signed_decimal (to_z w64 (of_z w64 z)) → numbers k (drop i ws) ≡ digits ++ (10 ∷ numbers k (drop (i + 1) ws))
+next k ws i z digits h f e t = ap (numbers k) (drop_more ws i 0 h) ∙ ap (λ x. x ++ (10 ∷ numbers k (drop (i + 1) ws))) (ap signed_decimal (sym e ∙ sym (to_z-of_z w64 z f)) ∙ sym t)
 
 pub loop-word-init : goal.loop-word-init
 loop-word-init g c = begin _ _
 
-pub returns-in_err-signed : goal.returns-in_err-signed
-returns-in_err-signed g c =
-    finish c.loop-word.invariant
-    (stopped _ (next (g.K.ValueKind.kind c.args.kind.now) c.args.words.now c.loop-word.word-index c.number.result c.loop-word-test.true (search rules) c.number.ensures)
-    c.from_residual.ensures.0 c.in_err-signed.ensures)
-
 pub returns-in_err-text : goal.returns-in_err-text
 returns-in_err-text g c =
     finish c.loop-word.invariant
-    (then (next (g.K.ValueKind.kind c.args.kind.now) c.args.words.now c.loop-word.word-index c.number.result c.loop-word-test.true (search rules) c.number.ensures)
-    c.in_ok-signed.ensures (stopped _ refl c.from_residual-in_err-text.ensures.0 c.in_err-text.ensures))
+    (stopped _ (next (g.K.ValueKind.kind c.args.kind.now) c.args.words.now c.loop-word.word-index c.number.result _ c.loop-word-test.true (search rules) c.number.ensures c.format.ensures.text)
+    c.from_residual.ensures.0 c.in_err-text.ensures)
+
+pub returns-in_err-text-2 : goal.returns-in_err-text-2
+returns-in_err-text-2 g c =
+    finish c.loop-word.invariant
+    (then (next (g.K.ValueKind.kind c.args.kind.now) c.args.words.now c.loop-word.word-index c.number.result _ c.loop-word-test.true (search rules) c.number.ensures c.format.ensures.text)
+    c.in_ok-text.ensures (stopped _ refl c.from_residual-in_err-text-2.ensures.0 c.in_err-text-2.ensures))
 
 pub loop-word-preserved : goal.loop-word-preserved
 loop-word-preserved g c =
     onward _ refl
-    (onward _ (next (g.K.ValueKind.kind c.args.kind.now) c.args.words.now c.loop-word.word-index c.number.result c.loop-word-test.true (search rules) c.number.ensures) c.loop-word.invariant c.in_ok-signed.ensures)
-    c.in_ok-text.ensures
+    (onward _ (next (g.K.ValueKind.kind c.args.kind.now) c.args.words.now c.loop-word.word-index c.number.result _ c.loop-word-test.true (search rules) c.number.ensures c.format.ensures.text) c.loop-word.invariant c.in_ok-text.ensures)
+    c.in_ok-text-2.ensures
 
 pub returns : goal.returns
 returns g c = finish c.loop-word.invariant (whole_is (ap (numbers (g.K.ValueKind.kind c.args.kind.now)) (drop_all _ c.args.words.now c.loop-word-test.false)) (nothing _))
