@@ -1,6 +1,5 @@
 -- What serial working answers.
-use Rattle.std.specs.Prelude.{◌≡◌, ◌≤◌, vec_items}
-use Rattle.std.proofs.Math.Option.{some}
+use Rattle.std.specs.Prelude.{◌≡◌, ◌≤◌, Some, vec_items}
 use Rattle.kinds.specs.Kinds.{Kind}
 use Rattle.cards.specs.Code.{Card}
 use Rattle.cards.specs.Bounds.{card_steps, card_tasks}
@@ -19,7 +18,7 @@ result_of w = Serial.result (outcome_of w.outcome) w.steps w.made
 
 -- w is what the card c comes to, by the function and by the relation, within the card's bounds
 pub record WorkedSerially (k : Kind) (c : Card) (w : Worked) : Type 0 where
-  pub value : Serial.serially k c ≡ some (result_of w)
+  pub value : Serial.serially k c ≡ Some (result_of w)
   pub related : Serial.Serially k c (result_of w)
   pub steps : w.steps ≤ card_steps c
   pub made : w.made ≤ card_tasks c
