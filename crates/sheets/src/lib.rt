@@ -58,7 +58,7 @@ pub fn refused_sheet(heap: Global, number: u32, line: u32, word: u32) -> Result<
 }
 
 // Appends what `run_sheet` makes: at most `LONGEST` bytes for at most 16 words. It never fails if there is room.
-#[tactic(auto, using(crate::proofs::Sizes::length_run))]
+#[tactic(auto, using(crate::proofs::Turns::appends, crate::proofs::Sizes::length_run))]
 pub fn append_run<K: ValueKind>(
     out: &mut Vec<u8>,
     kind: &K,
@@ -78,7 +78,7 @@ pub fn append_run<K: ValueKind>(
 }
 
 // Appends what `fault_sheet` makes: at most `LONGEST` bytes for at most 8 ranks. It never fails if there is room.
-#[tactic(auto, using(crate::proofs::Sizes::length_fault))]
+#[tactic(auto, using(crate::proofs::Turns::appends, crate::proofs::Sizes::length_fault))]
 pub fn append_fault(
     out: &mut Vec<u8>,
     kind: FaultKind,
