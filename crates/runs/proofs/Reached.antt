@@ -1,6 +1,5 @@
 -- Every reached bench keeps the invariant, and once settled it agrees with serial working.
-use Rattle.std.proofs.Common.{◌≡◌, ℕ, true, false, not, ◌&&◌, ◌⊎◌, List, [], ◌∷◌, ◌++◌, sym, refl, ap, ◌∙◌, subst, inl, inr, ⊎_elim, arith}
-use mathlib.Core.Option.{some}
+use Rattle.std.proofs.Common.{◌≡◌, ℕ, true, false, not, ◌&&◌, ◌⊎◌, List, [], ◌∷◌, ◌++◌, Some, sym, refl, ap, ◌∙◌, subst, inl, inr, ⊎_elim, arith}
 use Rattle.std.specs.List.{AllByRecursion}
 use Rattle.std.proofs.ByRecursion.{All-weaker}
 use Rattle.std.proofs.lemmas.Bool.{both_ways, not-true, not_from_false, and_parts, and_from, cases_Bool, or_left, cond-true}
@@ -68,7 +67,7 @@ module _ (k : Kind) (c : Card) (r : Result) (b : Bench) (going_on : b.closed ≡
         shut = not_shut;
       }
 
-  own : (n : ℕ) (s : Member) → find n b.line ≡ some s → Found s.number b.line s
+  own : (n : ℕ) (s : Member) → find n b.line ≡ Some s → Found s.number b.line s
   own n s e = found_own n b.line s (found n b.line s e)
 
   holds_effect : Lawful k → (e : Event) → grants e b ≡ true → Holds k c r (effect k e b)
@@ -87,10 +86,10 @@ module _ (k : Kind) (c : Card) (r : Result) (b : Bench) (going_on : b.closed ≡
       let q = and_parts (settled b) (not (any_out b.line)) e in
       record { sound = h.sound; shut = λ x. record { settled_yet = q.0; none_out = not-true _ q.1 } }
 
-pub holds_apply : (k : Kind) → Lawful k → (c : Card) (r : Result) (b : Bench) (e : Event) (b₁ : Bench) → Holds k c r b → apply k e b ≡ some b₁ → Holds k c r b₁
+pub holds_apply : (k : Kind) → Lawful k → (c : Card) (r : Result) (b : Bench) (e : Event) (b₁ : Bench) → Holds k c r b → apply k e b ≡ Some b₁ → Holds k c r b₁
 holds_apply k law c r b e b₁ h q = let a = apply_some k e b b₁ q in subst (Holds k c r) a.makes (holds_effect k c r b a.going_on h law e a.allowed)
 
-holds_replay : (k : Kind) → Lawful k → (c : Card) (r : Result) (es : List Event) (b b₁ : Bench) → Holds k c r b → replay k es b ≡ some b₁ → Holds k c r b₁
+holds_replay : (k : Kind) → Lawful k → (c : Card) (r : Result) (es : List Event) (b b₁ : Bench) → Holds k c r b → replay k es b ≡ Some b₁ → Holds k c r b₁
 unfolding replay
 holds_replay k law c r [] b b₁ h q = let p : b ≡ b₁ = cc in subst (Holds k c r) p h
 holds_replay k law c r (e ∷ es) b b₁ h q =
@@ -156,15 +155,15 @@ serial_stuck k (stop d) f l e = cc
 serial_stuck k (more d s) f l e = absurd (no_step _ _ _ _ e d)
 
 -- at a settled line serial working is at its end
-settled_ends : (k : Kind) (m : List ℕ) (line : List Member) (n c : ℕ) (q : Result) → settled_line line ≡ true → AllByRecursion (λ s. Stands k s.task s.status) line → Serial k m (tasks line) n c q → (line_outcome m line ≡ some q.outcome) × (q.steps ≡ n) × (q.made ≡ c)
+settled_ends : (k : Kind) (m : List ℕ) (line : List Member) (n c : ℕ) (q : Result) → settled_line line ≡ true → AllByRecursion (λ s. Stands k s.task s.status) line → Serial k m (tasks line) n c q → (line_outcome m line ≡ Some q.outcome) × (q.steps ≡ n) × (q.made ≡ c)
 unfolding settled_line line_outcome stuck_outcome is_stuck
-settled_ends k m [] n c q e h s = let p = serial_empty k s in (ap (λ (x : Result). some x.outcome) (sym p), ap (λ (x : Result). x.steps) p, ap (λ (x : Result). x.made) p)
+settled_ends k m [] n c q e h s = let p = serial_empty k s in (ap (λ (x : Result). Some x.outcome) (sym p), ap (λ (x : Result). x.steps) p, ap (λ (x : Result). x.made) p)
 settled_ends k m (u ∷ us) n c q e h s = go u.status e h.0
   where
-    go : (v : Status) → is_stuck v ≡ true → Stands k u.task v → (stuck_outcome u.task.place v ≡ some q.outcome) × (q.steps ≡ n) × (q.made ≡ c)
+    go : (v : Status) → is_stuck v ≡ true → Stands k u.task v → (stuck_outcome u.task.place v ≡ Some q.outcome) × (q.steps ≡ n) × (q.made ≡ c)
     go waiting x g = let z : ◌≡◌ {A = ℕ} 0 1 = cc in absurd (omega arith)
     go out x g = let z : ◌≡◌ {A = ℕ} 0 1 = cc in absurd (omega arith)
-    go (stuck f l) x g = let p = serial_stuck k s f l (g m) in (ap (λ (x : Result). some x.outcome) (sym p), ap (λ (x : Result). x.steps) p, ap (λ (x : Result). x.made) p)
+    go (stuck f l) x g = let p = serial_stuck k s f l (g m) in (ap (λ (x : Result). Some x.outcome) (sym p), ap (λ (x : Result). x.steps) p, ap (λ (x : Result). x.made) p)
 
 counts_from : (o : Outcome) (r q : Result) (b : Bench) → Counted o r q → q.steps ≡ b.steps → q.made ≡ b.made → Counts o r b
 counts_from (words m) r q b h e d = (sym e ∙ h.0, sym d ∙ h.1)
@@ -181,7 +180,7 @@ agreement k c r b s h x =
     let f = h.sound.follows in
     let e = settled_ends k b.store b.line b.steps b.made f.result x h.sound.orderly.stands f.serial in
     let worked = (serially_agrees k c r).1 s in
-    let same : outcome b ≡ some r.outcome = e.0 ∙ ap (λ (o : Outcome). some o) f.same in
+    let same : outcome b ≡ Some r.outcome = e.0 ∙ ap (λ (o : Outcome). Some o) f.same in
     let counts : Counts r.outcome r b = counts_from r.outcome r f.result b f.counted e.1 e.2 in
     record {
       serial = r;

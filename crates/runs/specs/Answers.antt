@@ -1,6 +1,6 @@
 -- What each call answers, and what it leaves.
-use Rattle.std.specs.Prelude.{ℕ, zero, suc, cond, List, [], ◌∷◌, ◌++◌, length, drop}
-use Rattle.std.proofs.Math.Option.{Option, none, some, Option-elim}
+use Rattle.std.specs.Prelude.{ℕ, zero, suc, cond, List, [], ◌∷◌, ◌++◌, length, drop, Some, None, Option}
+use Rattle.std.specs.Option.{option_map_or}
 use Rattle.kinds.specs.Kinds.{Kind}
 use Rattle.working.specs.Requests.{Reply, faulted, stepped}
 use Rattle.runs.specs.Lines.{find}
@@ -21,7 +21,7 @@ reply_answer (stepped x) = done
 
 -- what a step of task n answers
 unfoldable pub step_answer : Kind → ℕ → Bench → Answer
-step_answer k n b = Option-elim (find n b.line) (refused Foreign) λ s. reply_answer (replied k b s)
+step_answer k n b = option_map_or (λ s. reply_answer (replied k b s)) (find n b.line) (refused Foreign)
 
 -- the turn of the task that f chooses is taken and performed
 unfoldable pub turned : Kind → (List ℕ → ℕ) → Bench → Bench
@@ -48,8 +48,8 @@ granted k (sheet z buffer) b = ((write_out (bench_sheet k b) buffer).0, b)
 
 -- a refused call leaves x as it is
 unfoldable pub answered : {X : Type 0} → Option Refusal → X → Answer × X → Answer × X
-answered none x r = r
-answered (some n) x r = (refused n, x)
+answered None x r = r
+answered (Some n) x r = (refused n, x)
 
 unfoldable pub answer : Kind → Call → Bench → Answer × Bench
 answer k x b = answered (refusal k x b) b (granted k x b)

@@ -1,6 +1,5 @@
 -- The queue of an object, read off the line: an entry for each task that declares anything on it, in the line's order.
-use Rattle.std.specs.Prelude.{ℕ, zero, suc, Bool, cond, ◌||◌, List, [], ◌∷◌, ◌==◌, slice_index_or}
-use Rattle.std.proofs.Math.Option.{Option, none, some}
+use Rattle.std.specs.Prelude.{ℕ, zero, suc, Bool, cond, ◌||◌, List, [], ◌∷◌, Some, None, Option, ◌==◌, slice_index_or}
 pub use Rattle.runs.specs.declared.entry.Entry.{Entry}
 use Rattle.working.specs.declared.declared.Declared.{Declared}
 use Rattle.working.specs.Tasks.{nothing, held}
@@ -24,7 +23,7 @@ earlier n (e ∷ es) = cond (e.number == n) [] (e ∷ earlier n es)
 
 -- the entry at a place, from 0
 unfoldable pub entry_at : ℕ → List Entry → Option Entry
-entry_at zero [] = none
-entry_at (suc i) [] = none
-entry_at zero (e ∷ es) = some e
+entry_at zero [] = None
+entry_at (suc i) [] = None
+entry_at zero (e ∷ es) = Some e
 entry_at (suc i) (e ∷ es) = entry_at i es
