@@ -1,5 +1,5 @@
 -- Two tasks that do not bar each other: what they ask commutes.
-use Rattle.std.proofs.Common.{◌≡◌, ℕ, zero, suc, ◌≢◌, List, [], ◌∷◌, get_or, set, sym, refl, ap, ⊎_elim, arith}
+use Rattle.std.proofs.Common.{◌≡◌, ℕ, zero, suc, ◌≢◌, List, [], ◌∷◌, get_or, set, sym, refl, ap, ⊎_elim}
 use Rattle.std.specs.List.{AllByRecursion}
 use Rattle.std.proofs.lemmas.List.{get_or-set_other, set_comm}
 use Rattle.std.proofs.lemmas.Bool.{cases_eq}
@@ -32,7 +32,7 @@ pub apart_within : (u v t : Task) → Within u v → Apart u t → Apart v t
 apart_within u v t w p o a b i x = w o b (p o a b i x)
 
 not_both : (l : Level) → l ≡ Immediate → l ≡ Absent → ⊥
-not_both l p q = let z : ◌≡◌ {A = ℕ} 0 1 = cc in omega arith
+not_both l p q = cc
 
 -- two tasks that are apart, with accesses that bar each other, use different objects
 differ : (u t : Task) (a b : Access) (i j : ℕ) → Apart u t → at t j a ≡ Immediate → at u i b ≡ Immediate → Bars a b → i ≢ j

@@ -61,8 +61,8 @@ follows_trans k m line n c r q e h f = record { result = f.result; serial = f.se
 -- The cases of the invariant.
 
 never_empty : (before : List Task) (t : Task) (behind : List Task) → [] ≡ before ++ (t ∷ behind) → ⊥
-never_empty [] t behind e = let z : ◌≡◌ {A = ℕ} 0 1 = cc in omega arith
-never_empty (u ∷ us) t behind e = let z : ◌≡◌ {A = ℕ} 0 1 = cc in omega arith
+never_empty [] t behind e = cc
+never_empty (u ∷ us) t behind e = cc
 
 head_is : (u v : Task) (us vs : List Task) → u ∷ us ≡ v ∷ vs → u ≡ v
 head_is u v us vs e = cc

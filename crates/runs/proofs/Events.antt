@@ -1,5 +1,5 @@
 -- When an event is granted, and what it then does.
-use Rattle.std.proofs.Common.{◌≡◌, ℕ, Bool, true, false, cond, not, ◌&&◌, List, [], ◌∷◌, ◌++◌, Some, None, Option, option_and_then, refl, ap, ◌∙◌, arith}
+use Rattle.std.proofs.Common.{◌≡◌, ℕ, Bool, true, false, cond, not, ◌&&◌, List, [], ◌∷◌, ◌++◌, Some, None, Option, option_and_then, refl, ap, ◌∙◌}
 use Rattle.std.specs.Option.{option_map_or}
 use Rattle.std.proofs.lemmas.Bool.{not-true, not_from_false, and_parts, and_from, cond-true}
 use Rattle.kinds.specs.Kinds.{Kind}
@@ -17,7 +17,7 @@ pub test_found : (n : ℕ) (line : List Member) (p : Member → Bool) → option
 test_found n line p e = go (find n line) refl e
   where
     go : (o : Option Member) → find n line ≡ o → option_map_or p o false ≡ true → (s : Member) × (find n line ≡ Some s) × (p s ≡ true)
-    go None q e = let z : ◌≡◌ {A = ℕ} 0 1 = cc in absurd (omega arith)
+    go None q e = cc
     go (Some s) q e = (s, q, e)
 
 pub found_test : (n : ℕ) (line : List Member) (p : Member → Bool) (s : Member) → find n line ≡ Some s → p s ≡ true → option_map_or p (find n line) false ≡ true
@@ -44,7 +44,7 @@ apply_some k e b b₁ q = go (not b.closed && grants e b) refl q
   where
     go : (x : Bool) → (not b.closed && grants e b) ≡ x → cond x (Some (effect k e b)) None ≡ Some b₁ → Applied k e b b₁
     go true p g = let w = and_parts (not b.closed) (grants e b) p in record { going_on = not-true _ w.0; allowed = w.1; makes = cc }
-    go false p g = let z : ◌≡◌ {A = ℕ} 0 1 = cc in absurd (omega arith)
+    go false p g = cc
 
 pub apply_granted : (k : Kind) (e : Event) (b : Bench) → b.closed ≡ false → grants e b ≡ true → apply k e b ≡ Some (effect k e b)
 unfolding apply
@@ -57,7 +57,7 @@ unfolding replay
 replay_first k e es b b₁ q = go (apply k e b) refl q
   where
     go : (o : Option Bench) → apply k e b ≡ o → option_and_then (replay k es) o ≡ Some b₁ → (b₂ : Bench) × (apply k e b ≡ Some b₂) × (replay k es b₂ ≡ Some b₁)
-    go None p g = let z : ◌≡◌ {A = ℕ} 0 1 = cc in absurd (omega arith)
+    go None p g = cc
     go (Some b₂) p g = (b₂, p, g)
 
 replay_next : (k : Kind) (e : Event) (es : List Event) (b b₁ : Bench) → apply k e b ≡ Some b₁ → replay k (e ∷ es) b ≡ replay k es b₁

@@ -90,7 +90,7 @@ successors_pairs : (n c : ℕ) (x : Next) → n < c → Pairs Beside (members n 
 unfolding members member
 successors_pairs n c leaves h = tt
 successors_pairs n c (goes u) h = (tt, tt)
-successors_pairs n c (makes v u) h = ((record { apart = λ e. let z : ◌≡◌ {A = ℕ} 0 1 = cc in absurd (omega arith); differ = λ e. omega arith }, tt), (tt, tt))
+successors_pairs n c (makes v u) h = ((record { apart = λ e. cc; differ = λ e. omega arith }, tt), (tt, tt))
 
 successors_numbered : (n c : ℕ) (x : Next) → n < c → AllByRecursion (λ s. s.number < c + made_by x) (members n c x)
 unfolding members member made_by
@@ -111,7 +111,7 @@ successors_tasks n c (goes u) = refl
 successors_tasks n c (makes v u) = refl
 
 never_out : (w : Member) → w.status ≡ waiting → w.status ≡ out → ⊥
-never_out w p q = let z : ◌≡◌ {A = ℕ} 0 1 = cc in omega arith
+never_out w p q = cc
 
 successor_behind : (s : Member) (c : ℕ) (u : Member) → Beside u s → u.number < c → (ws : List Member) → AllByRecursion (Successor s.task s.number c) ws → AllByRecursion (Beside u) ws
 successor_behind s c u b l [] h = tt

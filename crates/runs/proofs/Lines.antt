@@ -1,5 +1,5 @@
 -- Members of a line: where one stands, and the line with others in its place.
-use Rattle.std.proofs.Common.{◌≡◌, ℕ, Bool, true, false, cond, eqb, List, [], ◌∷◌, ◌++◌, map, Some, sym, refl, ap, ◌∙◌, subst, arith}
+use Rattle.std.proofs.Common.{◌≡◌, ℕ, Bool, true, false, cond, eqb, List, [], ◌∷◌, ◌++◌, map, Some, sym, refl, ap, ◌∙◌, subst}
 use Rattle.std.specs.List.{AllByRecursion}
 use Rattle.std.proofs.lemmas.List.{map-append}
 use Rattle.std.proofs.lemmas.Bool.{eqb-true, ne_eqb, eq-eqb, or_parts, or_from, or_left, or_right}
@@ -18,9 +18,9 @@ same_tasks before s u behind = tasks_append before (with_status s u ∷ behind) 
 
 pub out_is : (s : Status) → is_out s ≡ true → s ≡ out
 unfolding is_out
-out_is waiting e = let z : ◌≡◌ {A = ℕ} 0 1 = cc in absurd (omega arith)
+out_is waiting e = cc
 out_is out e = refl
-out_is (stuck f l) e = let z : ◌≡◌ {A = ℕ} 0 1 = cc in absurd (omega arith)
+out_is (stuck f l) e = cc
 
 -- the member that is numbered n stands somewhere in the line
 pub record Found (n : ℕ) (line : List Member) (s : Member) : Type 0 where
@@ -46,7 +46,7 @@ found_later n u us s e f = record {
 
 pub found : (n : ℕ) (line : List Member) (s : Member) → find n line ≡ Some s → Found n line s
 unfolding find
-found n [] s h = let z : ◌≡◌ {A = ℕ} 0 1 = cc in absurd (omega arith)
+found n [] s h = cc
 found n (u ∷ us) s h = go (eqb u.number n) refl h (found n us s)
   where
     go : (x : Bool) → eqb u.number n ≡ x → cond x (Some u) (find n us) ≡ Some s → (find n us ≡ Some s → Found n us s) → Found n (u ∷ us) s
@@ -65,7 +65,7 @@ found_own n line s f = subst (λ (i : ℕ). Found i line s) (sym f.number) f
 
 pub find_replaced : (n : ℕ) (w : Member) → w.number ≡ n → (line : List Member) (s : Member) → find n line ≡ Some s → find n (replace n (w ∷ []) line) ≡ Some w
 unfolding find replace
-find_replaced n w e [] s h = let z : ◌≡◌ {A = ℕ} 0 1 = cc in absurd (omega arith)
+find_replaced n w e [] s h = cc
 find_replaced n w e (u ∷ us) s h = go (eqb u.number n) refl h (find_replaced n w e us s)
   where
     go : (x : Bool) → eqb u.number n ≡ x → cond x (Some u) (find n us) ≡ Some s → (find n us ≡ Some s → find n (replace n (w ∷ []) us) ≡ Some w) → find n (cond x (w ∷ us) (u ∷ replace n (w ∷ []) us)) ≡ Some w

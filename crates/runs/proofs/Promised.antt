@@ -33,7 +33,7 @@ use Rattle.runs.proofs.Refusals.{answer_granted, refuses}
 unless_none : (t : Bool) (r : Refusal) → unless t r ≡ None → t ≡ true
 unfolding unless
 unless_none true r e = refl
-unless_none false r e = let z : ◌≡◌ {A = ℕ} 0 1 = cc in absurd (omega arith)
+unless_none false r e = cc
 
 none_unless : (t : Bool) (r : Refusal) → t ≡ true → unless t r ≡ None
 unfolding unless
@@ -41,8 +41,8 @@ none_unless t r e = rw e
 
 some_offered : (ns : List ℕ) → not_empty ns ≡ true → ns ≡ [] → ⊥
 unfolding not_empty
-some_offered [] e p = let z : ◌≡◌ {A = ℕ} 0 1 = cc in omega arith
-some_offered (n ∷ ns) e p = let z : ◌≡◌ {A = ℕ} 0 1 = cc in omega arith
+some_offered [] e p = cc
+some_offered (n ∷ ns) e p = cc
 
 offered_some : (ns : List ℕ) → (ns ≡ [] → ⊥) → not_empty ns ≡ true
 unfolding not_empty

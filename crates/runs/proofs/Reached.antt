@@ -61,7 +61,7 @@ module _ (k : Kind) (c : Card) (r : Result) (b : Bench) (going_on : b.closed ≡
   holds_step law s f o = go (reply b.store (request k s.task)) refl
     where
       go : (p : Reply) → reply b.store (request k s.task) ≡ p → Holds k c r (after_reply k b s p)
-      go (faulted g l) e = holds_marked s (stuck g l) f (λ m. fault_reply (request k s.task) g l b.store m e) (λ q. let z : ◌≡◌ {A = ℕ} 0 1 = cc in absurd (omega arith))
+      go (faulted g l) e = holds_marked s (stuck g l) f (λ m. fault_reply (request k s.task) g l b.store m e) (λ q. cc)
       go (stepped x) e = record {
         sound = rw (f.replaced (members s.number b.made x)) (sound_step k law c r b.store f.before s f.behind b.made b.steps x (split_sound s f) o e);
         shut = not_shut;
@@ -81,7 +81,7 @@ module _ (k : Kind) (c : Card) (r : Result) (b : Bench) (going_on : b.closed ≡
       subst (Holds k c r) (sym (advanced_found k n b g.0 g.1)) (holds_step law g.0 (own n g.0 g.1) (out_is g.0.status g.2))
   holds_effect law (handed_back n) e =
       let g = test_found n b.line (λ s. is_out s.status) e in
-      subst (Holds k c r) (sym (put_found n waiting b g.0 g.1)) (holds_marked g.0 waiting (own n g.0 g.1) tt (λ q. let z : ◌≡◌ {A = ℕ} 0 1 = cc in absurd (omega arith)))
+      subst (Holds k c r) (sym (put_found n waiting b g.0 g.1)) (holds_marked g.0 waiting (own n g.0 g.1) tt (λ q. cc))
   holds_effect law Event.closed e =
       let q = and_parts (settled b) (not (any_out b.line)) e in
       record { sound = h.sound; shut = λ x. record { settled_yet = q.0; none_out = not-true _ q.1 } }
@@ -106,7 +106,7 @@ holds_opened k law c ls n r s = record {
     steps_left = omega arith;
     tasks_left = omega arith;
   };
-  shut = λ e. let z : ◌≡◌ {A = ℕ} 0 1 = cc in absurd (omega arith);
+  shut = λ e. cc;
 }
 
 pub reached_holds : (k : Kind) → Lawful k → (c : Card) → Literals c → (n : ℕ) (r : Result) (b : Bench) → Serially k c r → Reached k c n b → Holds k c r b
@@ -117,14 +117,14 @@ reached_holds k law c ls n r b s e = holds_replay k law c r e.0 (opened k c n) b
 -- the first in line is offered, or its turn is out, or it is stuck
 pub first_offered : (line : List Member) → settled_line line ≡ false → (any_out line ≡ true) ⊎ (offered line line ≡ [] → ⊥)
 unfolding settled_line any_out offered on_offer is_out is_stuck
-first_offered [] e = let z : ◌≡◌ {A = ℕ} 0 1 = cc in absurd (omega arith)
+first_offered [] e = cc
 first_offered (s ∷ ss) e = go s.status refl
   where
     go : (u : Status) → s.status ≡ u → (any_out (s ∷ ss) ≡ true) ⊎ (offered (s ∷ ss) (s ∷ ss) ≡ [] → ⊥)
     go waiting p =
         let t = and_from (ready (s ∷ ss) s) (not (is_out s.status)) (clear_ready (s ∷ ss) s (ap is_stuck p) (apart_clear s [] ss tt)) (not_from_false _ (ap is_out p)) in
         let o = cond-true (ready (s ∷ ss) s && not (is_out s.status)) (s.number ∷ offered (s ∷ ss) ss) (offered (s ∷ ss) ss) t in
-        inr (λ q. let z : ◌≡◌ {A = ℕ} 0 1 = cc in omega arith)
+        inr (λ q. cc)
     go out p = inl (or_left (is_out s.status) (any_out ss) (ap is_out p))
     go (stuck f l) p = absurd (both_ways (is_stuck s.status) e (ap is_stuck p))
 
@@ -161,8 +161,8 @@ settled_ends k m [] n c q e h s = let p = serial_empty k s in (ap (λ (x : Resul
 settled_ends k m (u ∷ us) n c q e h s = go u.status e h.0
   where
     go : (v : Status) → is_stuck v ≡ true → Stands k u.task v → (stuck_outcome u.task.place v ≡ Some q.outcome) × (q.steps ≡ n) × (q.made ≡ c)
-    go waiting x g = let z : ◌≡◌ {A = ℕ} 0 1 = cc in absurd (omega arith)
-    go out x g = let z : ◌≡◌ {A = ℕ} 0 1 = cc in absurd (omega arith)
+    go waiting x g = cc
+    go out x g = cc
     go (stuck f l) x g = let p = serial_stuck k s f l (g m) in (ap (λ (x : Result). Some x.outcome) (sym p), ap (λ (x : Result). x.steps) p, ap (λ (x : Result). x.made) p)
 
 counts_from : (o : Outcome) (r q : Result) (b : Bench) → Counted o r q → q.steps ≡ b.steps → q.made ≡ b.made → Counts o r b

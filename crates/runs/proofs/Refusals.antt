@@ -1,5 +1,5 @@
 -- When a call is refused, and that it then changes nothing.
-use Rattle.std.proofs.Common.{◌≡◌, ℕ, Bool, true, false, cond, not, eqb, leb, ◌⊎◌, ◌↔◌, List, [], ◌∷◌, length, Some, None, Option, sym, refl, ap, ◌∙◌, subst, inl, inr, arith}
+use Rattle.std.proofs.Common.{◌≡◌, ℕ, Bool, true, false, cond, not, eqb, leb, ◌⊎◌, ◌↔◌, List, [], ◌∷◌, length, Some, None, Option, sym, refl, ap, ◌∙◌, subst, inl, inr}
 use Rattle.std.specs.Option.{option_map_or}
 use Rattle.std.proofs.lemmas.Bool.{both_ways, not-false, not_from_true, and_parts, leb-false, lt-leb, cond-true, cond-false}
 use Rattle.kinds.specs.Kinds.{Kind}
@@ -34,7 +34,7 @@ same_number r q e = sym (numbered_number r) ∙ ap numbered e ∙ numbered_numbe
 
 unless_some : (t : Bool) (r q : Refusal) → unless t r ≡ Some q → (t ≡ false) × (r ≡ q)
 unfolding unless
-unless_some true r q e = let z : ◌≡◌ {A = ℕ} 0 1 = cc in absurd (omega arith)
+unless_some true r q e = cc
 unless_some false r q e = (refl, cc)
 
 -- a step of a task whose turn is out is not refused
@@ -45,20 +45,20 @@ step_granted k t b r f e =
     no (replied k b s.0) (sym (ap (λ (o : Option Member). option_map_or (λ s. reply_answer (replied k b s)) o (refused Foreign)) s.1) ∙ e)
   where
     no : (p : Reply) → reply_answer p ≡ refused r → ⊥
-    no (faulted f l) e = let z : ◌≡◌ {A = ℕ} 0 1 = cc in omega arith
-    no (stepped x) e = let z : ◌≡◌ {A = ℕ} 0 1 = cc in omega arith
+    no (faulted f l) e = cc
+    no (stepped x) e = cc
 
 module _ (k : Kind) (b : Bench) where
   -- a granted call answers no refusal
   not_refused : (x : Call) (r : Refusal) → fits x b ≡ true → (granted k x b).0 ≡ refused r → ⊥
   unfolding fits granted write_out
-  not_refused (Call.take g f) r h e = let z : ◌≡◌ {A = ℕ} 0 1 = cc in omega arith
+  not_refused (Call.take g f) r h e = cc
   not_refused (Call.perform t) r h e = step_granted k t b r h e
-  not_refused (Call.hand_back t) r h e = let z : ◌≡◌ {A = ℕ} 0 1 = cc in omega arith
-  not_refused (Call.look o i) r h e = let z : ◌≡◌ {A = ℕ} 0 1 = cc in omega arith
-  not_refused (Call.work_off g fs) r h e = let z : ◌≡◌ {A = ℕ} 0 1 = cc in omega arith
-  not_refused (Call.close g) r h e = let z : ◌≡◌ {A = ℕ} 0 1 = cc in omega arith
-  not_refused (Call.sheet z buffer) r h e = let z : ◌≡◌ {A = ℕ} 0 1 = cc in omega arith
+  not_refused (Call.hand_back t) r h e = cc
+  not_refused (Call.look o i) r h e = cc
+  not_refused (Call.work_off g fs) r h e = cc
+  not_refused (Call.close g) r h e = cc
+  not_refused (Call.sheet z buffer) r h e = cc
 
   -- refused for being foreign, or for the call's own reason
   data Why (x : Call) (r : Refusal) : Type 0 where
@@ -98,13 +98,13 @@ module _ (k : Kind) (b : Bench) where
   -- the call's own reason is another one
   never : (x : Call) → own_refusal k x b ≡ Some Foreign → ⊥
   unfolding own_refusal too_long
-  never (Call.take g f) e = let q = (unless_some _ _ _ e).1 in let z : ◌≡◌ {A = ℕ} 0 1 = cc in omega arith
-  never (Call.perform t) e = let z : ◌≡◌ {A = ℕ} 0 1 = cc in omega arith
-  never (Call.hand_back t) e = let z : ◌≡◌ {A = ℕ} 0 1 = cc in omega arith
-  never (Call.look o i) e = let z : ◌≡◌ {A = ℕ} 0 1 = cc in omega arith
-  never (Call.work_off g fs) e = let q = (unless_some _ _ _ e).1 in let z : ◌≡◌ {A = ℕ} 0 1 = cc in omega arith
-  never (Call.close g) e = let q = (unless_some _ _ _ e).1 in let z : ◌≡◌ {A = ℕ} 0 1 = cc in omega arith
-  never (Call.sheet s buffer) e = let q = (unless_some _ _ _ e).1 in let z : ◌≡◌ {A = ℕ} 0 1 = cc in omega arith
+  never (Call.take g f) e = let q = (unless_some _ _ _ e).1 in cc
+  never (Call.perform t) e = cc
+  never (Call.hand_back t) e = cc
+  never (Call.look o i) e = cc
+  never (Call.work_off g fs) e = let q = (unless_some _ _ _ e).1 in cc
+  never (Call.close g) e = let q = (unless_some _ _ _ e).1 in cc
+  never (Call.sheet s buffer) e = let q = (unless_some _ _ _ e).1 in cc
 
   foreign_row : (x : Call) → RefusedWith k x b 8 ↔ (fits x b ≡ false)
   unfolding refusal
@@ -131,9 +131,9 @@ module _ (k : Kind) (b : Bench) where
   own_number : (x : Call) (r : Refusal) → own_refusal k x b ≡ Some r → OwnNumber x (refusal_number r)
   unfolding own_refusal too_long
   own_number (Call.take g f) r e = ap refusal_number (sym (unless_some _ _ _ e).1)
-  own_number (Call.perform t) r e = let z : ◌≡◌ {A = ℕ} 0 1 = cc in absurd (omega arith)
-  own_number (Call.hand_back t) r e = let z : ◌≡◌ {A = ℕ} 0 1 = cc in absurd (omega arith)
-  own_number (Call.look o i) r e = let z : ◌≡◌ {A = ℕ} 0 1 = cc in absurd (omega arith)
+  own_number (Call.perform t) r e = cc
+  own_number (Call.hand_back t) r e = cc
+  own_number (Call.look o i) r e = cc
   own_number (Call.work_off g fs) r e = ap refusal_number (sym (unless_some _ _ _ e).1)
   own_number (Call.close g) r e = ap refusal_number (sym (unless_some _ _ _ e).1)
   own_number (Call.sheet z buffer) r e = ap refusal_number (sym (unless_some _ _ _ e).1)
@@ -153,7 +153,7 @@ module _ (k : Kind) (b : Bench) where
   nothing_offered : (ns : List ℕ) → not_empty ns ≡ false → ns ≡ []
   unfolding not_empty
   nothing_offered [] e = refl
-  nothing_offered (n ∷ ns) e = let z : ◌≡◌ {A = ℕ} 0 1 = cc in absurd (omega arith)
+  nothing_offered (n ∷ ns) e = cc
 
   buffer_kept : (s : Closed) (buffer : List ℕ) (r : Refusal) → refusal k (Call.sheet s buffer) b ≡ Some r → (answer k (Call.sheet s buffer) b).0 ≡ refused r → sheet_call k s buffer b ≡ ((answer k (Call.sheet s buffer) b).0, buffer)
   unfolding sheet_call answered

@@ -1,5 +1,5 @@
 -- What a request needs, and what does not depend on the words.
-use Rattle.std.proofs.Common.{◌≡◌, ℕ, zero, suc, true, List, refl, arith}
+use Rattle.std.proofs.Common.{◌≡◌, ℕ, zero, suc, true, List, refl}
 use Rattle.std.proofs.lemmas.Bool.{cond_both}
 use Rattle.kinds.specs.Kinds.{Kind}
 use Rattle.cards.specs.declared.lines.Access.{Access}
@@ -23,8 +23,8 @@ Allowed t (join o w n) = at t o Cm ≡ Immediate
 -- The access is immediate.
 
 immediate_is : (l : Level) → is_immediate l ≡ true → l ≡ Immediate
-immediate_is Absent e = let z : ◌≡◌ {A = ℕ} 0 1 = cc in absurd (omega arith)
-immediate_is Deferred e = let z : ◌≡◌ {A = ℕ} 0 1 = cc in absurd (omega arith)
+immediate_is Absent e = cc
+immediate_is Deferred e = cc
 immediate_is Immediate e = refl
 
 allowed_under : (t : Task) (a : Access) (o : ℕ) (r : Request) (f : FaultKind) (l : ℕ) → (at t o a ≡ Immediate → Allowed t r) → Allowed t (under t a o r (fault f l))
@@ -70,10 +70,10 @@ allowed k t = allowed_block k t t.work
 pub fault_reply : (r : Request) (f : FaultKind) (l : ℕ) (m m' : List ℕ) → reply m r ≡ faulted f l → reply m' r ≡ faulted f l
 unfolding reply
 fault_reply (fault f₁ l₁) f l m m' e = e
-fault_reply (quiet n) f l m m' e = let z : ◌≡◌ {A = ℕ} 0 1 = cc in absurd (omega arith)
-fault_reply (read o n) f l m m' e = let z : ◌≡◌ {A = ℕ} 0 1 = cc in absurd (omega arith)
+fault_reply (quiet n) f l m m' e = cc
+fault_reply (read o n) f l m m' e = cc
 fault_reply (write o w n) f l m m' e = e
 fault_reply (join o w n) f l m m' e = e
 
 pub no_step : (p : Reply) (f : FaultKind) (l : ℕ) (x : Next) → p ≡ faulted f l → p ≡ stepped x → ⊥
-no_step p f l x d q = let z : ◌≡◌ {A = ℕ} 0 1 = cc in omega arith
+no_step p f l x d q = cc

@@ -51,8 +51,8 @@ offered_waits line s e =
   where
     go : (u : Status) → is_stuck u ≡ false → is_out u ≡ false → u ≡ waiting
     go waiting p q = refl
-    go out p q = let z : ◌≡◌ {A = ℕ} 0 1 = cc in absurd (omega arith)
-    go (stuck f l) p q = let z : ◌≡◌ {A = ℕ} 0 1 = cc in absurd (omega arith)
+    go out p q = cc
+    go (stuck f l) p q = cc
 
 -- numbers differ, so a member that stands in the line is found
 differs : (k : Kind) (before : List Member) (s : Member) (behind : List Member) (made : ℕ) → Orderly k (before ++ (s ∷ behind)) made → AllByRecursion (λ u. u.number ≡ s.number → ⊥) before

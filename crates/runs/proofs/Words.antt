@@ -68,7 +68,7 @@ keeps_arm t z x y b h p q g = record { words = h; work = literals_before (cond z
 
 reply_words : (m : List ℕ) (r : Request) (x : Next) → AllByRecursion IsWord m → Keeps r → reply m r ≡ stepped x → AllByRecursion Worded (segment x)
 unfolding reply
-reply_words m (fault f l) x h g e = let z : ◌≡◌ {A = ℕ} 0 1 = cc in absurd (omega arith)
+reply_words m (fault f l) x h g e = cc
 reply_words m (quiet n) x h g e = let q : n ≡ x = cc in rw (← q) g
 reply_words m (read o n) x h g e = let q : n (get_or m o 0) ≡ x = cc in rw (← q) (g (get_or m o 0) (words_getD m o h))
 reply_words m (write o w n) x h g e = let q : n ≡ x = cc in rw (← q) g.1

@@ -123,9 +123,9 @@ unfolding refusal fits own_refusal unless
 no_refusal k g fs b e = go (fits_going g b) (any_out b.line) e
   where
     go : (x y : Bool) → cond {A = Option Refusal} x (unless (not y) Unsettled) (Some Foreign) ≡ None → (x ≡ true) × (y ≡ false)
-    go true true e = let z : ◌≡◌ {A = ℕ} 0 1 = cc in absurd (omega arith)
+    go true true e = cc
     go true false e = (refl, refl)
-    go false y e = let z : ◌≡◌ {A = ℕ} 0 1 = cc in absurd (omega arith)
+    go false y e = cc
 
 granted_still : (k : Kind) (g : Going) (fs : ℕ → List ℕ → ℕ) (b b₁ : Bench) → b₁.run ≡ b.run → fits_going g b ≡ true → b₁.closed ≡ false → any_out b₁.line ≡ false → refusal k (Call.work_off g fs) b₁ ≡ None
 unfolding refusal fits own_refusal unless fits_going
