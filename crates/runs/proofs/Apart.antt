@@ -6,7 +6,6 @@ use Rattle.std.proofs.lemmas.Bool.{cases_eq}
 use Rattle.kinds.specs.Kinds.{IsWord, Kind, Lawful}
 use Rattle.cards.specs.declared.lines.Access.{Access}
 use Rattle.cards.specs.declared.lines.Access.TheVariants.{Rd, Wr, Cm}
-use Rattle.cards.specs.declared.lines.Level.{Level}
 use Rattle.cards.specs.declared.lines.Level.TheVariants.{Absent, Immediate}
 use Rattle.working.specs.Tasks.{Task}
 use Rattle.working.specs.Requests.{Request, fault, quiet, read, write, join, stored, stepped, reply}
@@ -31,12 +30,9 @@ Apart u t = (o : ℕ) (a b : Access) → at t o a ≡ Immediate → Bars a b →
 pub apart_within : (u v t : Task) → Within u v → Apart u t → Apart v t
 apart_within u v t w p o a b i x = w o b (p o a b i x)
 
-not_both : (l : Level) → l ≡ Immediate → l ≡ Absent → ⊥
-not_both l p q = cc
-
 -- two tasks that are apart, with accesses that bar each other, use different objects
 differ : (u t : Task) (a b : Access) (i j : ℕ) → Apart u t → at t j a ≡ Immediate → at u i b ≡ Immediate → Bars a b → i ≢ j
-differ u t a b i j p h g x e = not_both (at u i b) g (rw e (p j a b h x))
+differ u t a b i j p h g x e = let q : at u i b ≡ Absent = rw e (p j a b h x) in cc
 
 -- Two joins, in either order.
 

@@ -21,15 +21,15 @@ test_found n line p e = go (find n line) refl e
     go (Some s) q e = (s, q, e)
 
 pub found_test : (n : ℕ) (line : List Member) (p : Member → Bool) (s : Member) → find n line ≡ Some s → p s ≡ true → option_map_or p (find n line) false ≡ true
-found_test n line p s e h = ap (λ (o : Option Member). option_map_or p o false) e ∙ h
+found_test n line p s e h = rw e h
 
 pub put_found : (n : ℕ) (u : Status) (b : Bench) (s : Member) → find n b.line ≡ Some s → put n u b ≡ marked b s u
 unfolding put
-put_found n u b s e = ap (λ (o : Option Member). option_map_or (λ s. marked b s u) o b) e
+put_found n u b s e = rw e
 
 pub advanced_found : (k : Kind) (n : ℕ) (b : Bench) (s : Member) → find n b.line ≡ Some s → advanced k n b ≡ step k b s
 unfolding advanced
-advanced_found k n b s e = ap (λ (o : Option Member). option_map_or (step k b) o b) e
+advanced_found k n b s e = rw e
 
 -- One event.
 
@@ -62,11 +62,7 @@ replay_first k e es b b₁ q = go (apply k e b) refl q
 
 replay_next : (k : Kind) (e : Event) (es : List Event) (b b₁ : Bench) → apply k e b ≡ Some b₁ → replay k (e ∷ es) b ≡ replay k es b₁
 unfolding replay
-replay_next k e es b b₁ p = ap (λ (o : Option Bench). option_and_then (replay k es) o) p
-
-replay_none : (k : Kind) (b : Bench) → replay k [] b ≡ Some b
-unfolding replay
-replay_none k b = refl
+replay_next k e es b b₁ p = rw p
 
 replay_append : (k : Kind) (es fs : List Event) (b b₁ : Bench) → replay k es b ≡ Some b₁ → replay k (es ++ fs) b ≡ replay k fs b₁
 unfolding replay
@@ -76,8 +72,10 @@ replay_append k (x ∷ es) fs b b₁ e =
     replay_next k x (es ++ fs) b g.0 g.1 ∙ replay_append k es fs g.0 b₁ g.2
 
 pub reached_opened : (k : Kind) (c : Card) (n : ℕ) → Reached k c n (opened k c n)
-reached_opened k c n = ([], replay_none k (opened k c n))
+unfolding replay
+reached_opened k c n = ([], refl)
 
 -- one more granted event
 pub reached_event : (k : Kind) (c : Card) (n : ℕ) (e : Event) (b b₁ : Bench) → Reached k c n b → apply k e b ≡ Some b₁ → Reached k c n b₁
-reached_event k c n e b b₁ h p = (h.0 ++ (e ∷ []), replay_append k h.0 (e ∷ []) (opened k c n) b h.1 ∙ replay_next k e [] b b₁ p ∙ replay_none k b₁)
+unfolding replay
+reached_event k c n e b b₁ h p = (h.0 ++ (e ∷ []), replay_append k h.0 (e ∷ []) (opened k c n) b h.1 ∙ replay_next k e [] b b₁ p)

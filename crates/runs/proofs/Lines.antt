@@ -1,5 +1,5 @@
 -- Members of a line: where one stands, and the line with others in its place.
-use Rattle.std.proofs.Common.{◌≡◌, ℕ, Bool, true, false, cond, eqb, List, [], ◌∷◌, ◌++◌, map, Some, sym, refl, ap, ◌∙◌, subst}
+use Rattle.std.proofs.Common.{◌≡◌, ℕ, Bool, true, false, cond, eqb, List, [], ◌∷◌, ◌++◌, map, Some, sym, refl, ap, subst}
 use Rattle.std.specs.List.{AllByRecursion}
 use Rattle.std.proofs.lemmas.List.{map-append}
 use Rattle.std.proofs.lemmas.Bool.{eqb-true, ne_eqb, eq-eqb, or_parts, or_from, or_left, or_right}
@@ -9,12 +9,9 @@ use Rattle.runs.specs.Lines.{Status, waiting, out, stuck, is_out, Member, member
 abbrev pub tasks : List Member → List Task
 tasks ss = map (λ s. s.task) ss
 
-pub tasks_append : (xs ys : List Member) → tasks (xs ++ ys) ≡ tasks xs ++ tasks ys
-tasks_append xs ys = map-append (λ s. s.task) xs ys
-
 pub same_tasks : (before : List Member) (s : Member) (u : Status) (behind : List Member) → tasks (before ++ (with_status s u ∷ behind)) ≡ tasks (before ++ (s ∷ behind))
 unfolding with_status member
-same_tasks before s u behind = tasks_append before (with_status s u ∷ behind) ∙ sym (tasks_append before (s ∷ behind))
+same_tasks before s u behind = simp map-append
 
 pub out_is : (s : Status) → is_out s ≡ true → s ≡ out
 unfolding is_out

@@ -20,9 +20,6 @@ not_held Absent e = refl
 not_held Deferred e = cc
 not_held Immediate e = cc
 
-absent_held : (l : Level) → l ≡ Absent → held l ≡ false
-absent_held l e = rw e
-
 -- One entry.
 
 declares_nothing : (d : Declared) → declares d ≡ false → (b : Access) → held (state d b) ≡ false
@@ -50,9 +47,9 @@ lets_from d a h b x = ⊎_elim (λ e. not_held _ (passes_bars d (h e) x)) (λ e.
 
 lets_passes : (d : Declared) (a : Access) → Lets a d → declares d ≡ true → passes a d ≡ true
 unfolding passes declares
-lets_passes d Rd h e = not_from_false _ (or_from _ _ (absent_held _ (h Wr rd_wr)) (absent_held _ (h Cm rd_cm)))
-lets_passes d Wr h e = absurd (both_ways _ (or_from _ _ (absent_held _ (h Rd wr_rd)) (or_from _ _ (absent_held _ (h Wr wr_wr)) (absent_held _ (h Cm wr_cm)))) e)
-lets_passes d Cm h e = not_from_false _ (or_from _ _ (absent_held _ (h Rd cm_rd)) (absent_held _ (h Wr cm_wr)))
+lets_passes d Rd h e = not_from_false _ (or_from _ _ (ap held (h Wr rd_wr)) (ap held (h Cm rd_cm)))
+lets_passes d Wr h e = absurd (both_ways _ (or_from _ _ (ap held (h Rd wr_rd)) (or_from _ _ (ap held (h Wr wr_wr)) (ap held (h Cm wr_cm)))) e)
+lets_passes d Cm h e = not_from_false _ (or_from _ _ (ap held (h Rd cm_rd)) (ap held (h Wr cm_wr)))
 
 -- One more task at the front of the line.
 
@@ -123,10 +120,6 @@ immediate_within t o a e = ⊎_elim (λ l. l) (λ g. absurd (past a (ap (λ d. s
     past Wr e = cc
     past Cm e = cc
 
-for_clear : (line : List Member) (s : Member) (o : ℕ) (a : Access) → clear_for line s o a ≡ true → at s.task o a ≡ Immediate → clear a (earlier s.number (queue o line)) ≡ true
-unfolding clear_for on
-for_clear line s o a h i = rw i at h
-
 clear_for_true : (line : List Member) (s : Member) (o : ℕ) (a : Access) → (at s.task o a ≡ Immediate → clear a (earlier s.number (queue o line)) ≡ true) → clear_for line s o a ≡ true
 unfolding clear_for on
 clear_for_true line s o a h = go (at s.task o a) h
@@ -137,10 +130,10 @@ clear_for_true line s o a h = go (at s.task o a) h
     go Immediate g = g refl
 
 pub ready_clear : (line : List Member) (s : Member) → ready line s ≡ true → Clear line s
-unfolding ready
+unfolding ready clear_for on
 ready_clear line s h o a i =
     let p = each_below _ _ (and_parts _ _ h).1 o (immediate_within s.task o a i) in
-    for_clear line s o a (pick a p) i
+    rw i at (pick a p)
   where
     pick : (a : Access) → (clear_for line s o Rd && (clear_for line s o Wr && clear_for line s o Cm)) ≡ true → clear_for line s o a ≡ true
     pick Rd p = (and_parts (clear_for line s o Rd) (clear_for line s o Wr && clear_for line s o Cm) p).0

@@ -20,7 +20,7 @@ use Rattle.runs.specs.BenchSheets.{settled_sheet, bench_sheet}
 use Rattle.runs.specs.Promise.{SerialSound, Counts, Agrees, Rests, Reached}
 use Rattle.working.proofs.Fine.{total_steps, total_tasks}
 use Rattle.working.proofs.Serials.{serially_ends, serially_agrees, serially_bounded}
-use Rattle.runs.proofs.Requests.{fault_reply, no_step}
+use Rattle.runs.proofs.Requests.{fault_reply}
 use Rattle.runs.proofs.Pairs.{pairs_before}
 use Rattle.runs.proofs.Words.{words_opened}
 use Rattle.runs.proofs.Apart.{Apart}
@@ -152,7 +152,7 @@ serial_empty k done = refl
 
 serial_stuck : (k : Kind) {m : List ℕ} {t : Task} {ts : List Task} {n c : ℕ} {r : Result} → Serial k m (t ∷ ts) n c r → (f : FaultKind) (l : ℕ) → reply m (request k t) ≡ faulted f l → r ≡ result (fault f l t.place) n c
 serial_stuck k (stop d) f l e = cc
-serial_stuck k (more d s) f l e = absurd (no_step _ _ _ _ e d)
+serial_stuck k (more d s) f l e = cc
 
 -- at a settled line serial working is at its end
 settled_ends : (k : Kind) (m : List ℕ) (line : List Member) (n c : ℕ) (q : Result) → settled_line line ≡ true → AllByRecursion (λ s. Stands k s.task s.status) line → Serial k m (tasks line) n c q → (line_outcome m line ≡ Some q.outcome) × (q.steps ≡ n) × (q.made ≡ c)

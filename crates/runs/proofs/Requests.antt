@@ -9,7 +9,7 @@ use Rattle.cards.specs.declared.lines.Level.TheVariants.{Absent, Deferred, Immed
 use Rattle.cards.specs.Code.{Block, end, next, Statement}
 use Rattle.working.specs.declared.fault.FaultKind.{FaultKind}
 use Rattle.working.specs.Tasks.{is_immediate, Task}
-use Rattle.working.specs.Requests.{Next, Request, fault, quiet, read, write, join, Section, refused, accepted, after_with, after_task, under, statement_request, block_request, request, faulted, Reply, stepped, reply}
+use Rattle.working.specs.Requests.{Request, fault, quiet, read, write, join, Section, refused, accepted, after_with, after_task, under, statement_request, block_request, request, faulted, reply}
 use Rattle.working.proofs.Fine.{at}
 
 -- the access that a request uses is immediate
@@ -74,6 +74,3 @@ fault_reply (quiet n) f l m m' e = cc
 fault_reply (read o n) f l m m' e = cc
 fault_reply (write o w n) f l m m' e = e
 fault_reply (join o w n) f l m m' e = e
-
-pub no_step : (p : Reply) (f : FaultKind) (l : ℕ) (x : Next) → p ≡ faulted f l → p ≡ stepped x → ⊥
-no_step p f l x d q = cc

@@ -1,5 +1,5 @@
 -- A work-off ends where the bench can close, and granted events lead there.
-use Rattle.std.proofs.Common.{◌≡◌, ℕ, zero, suc, ◌≤◌, Bool, true, false, cond, not, ◌&&◌, eqb, List, Some, None, Option, sym, refl, ap, ◌∙◌, arith}
+use Rattle.std.proofs.Common.{◌≡◌, ℕ, zero, suc, ◌≤◌, Bool, true, false, cond, not, ◌&&◌, eqb, List, Some, None, Option, sym, refl, ap, ap₂, ◌∙◌, arith}
 use Rattle.std.proofs.lemmas.Bool.{not-true, not_from_false, and_parts, and_from, cond-true, cond-false}
 use Rattle.kinds.specs.Kinds.{Kind, Lawful}
 use Rattle.cards.specs.Code.{Card}
@@ -137,9 +137,6 @@ pub turned_run : (k : Kind) (f : List ℕ → ℕ) (b : Bench) → (turned k f b
 unfolding turned
 turned_run k f b = effect_run k (performed (chosen f (offer b))) (effect k (took (chosen f (offer b))) b) ∙ effect_run k (took (chosen f (offer b))) b
 
-pair : {a a₁ : Answer} {b b₁ : Bench} → a ≡ a₁ → b ≡ b₁ → ◌≡◌ {A = Answer × Bench} (a, b) (a₁, b₁)
-pair p q = λ i. (p i, q i)
-
 -- the refusal does not depend on the choices
 call_is : (k : Kind) (g : Going) (fs hs : ℕ → List ℕ → ℕ) (b : Bench) (o : Option Refusal) → refusal k (Call.work_off g hs) b ≡ o → answer k (Call.work_off g fs) b ≡ answered o b (Answer.going g, worked_off k (left b.line) fs b)
 unfolding answer refusal fits own_refusal granted
@@ -176,10 +173,10 @@ module _ (S : Type 0) (choice : S → List ℕ → ℕ) (next : S → List ℕ �
   is_call g s a s₁ b₁ h = go (refusal k (Call.work_off g (λ i. choice s)) b) refl h
     where
       go : (o : Option Refusal) → refusal k (Call.work_off g (λ i. choice s)) b ≡ o → ByRefusal k S choice next o g s b a s₁ b₁ → IsCall k g b a b₁
-      go (Some m) e w = ((λ i. choice s), (λ i. chooses s), call_is k g (λ i. choice s) (λ i. choice s) b (Some m) e ∙ sym (pair w.0 w.2))
+      go (Some m) e w = ((λ i. choice s), (λ i. chooses s), call_is k g (λ i. choice s) (λ i. choice s) b (Some m) e ∙ ap₂ (λ (x : Answer) (y : Bench). (x, y)) (sym w.0) (sym w.2))
       go None e w =
           let x = relation_called k law c n (serially_ends k c).0 S choice next chooses w.1 (at_work g s e) in
-          (x.0, x.1, call_is k g x.0 (λ i. choice s) b None e ∙ pair (sym w.0) (x.2 (left b.line) (omega arith)))
+          (x.0, x.1, call_is k g x.0 (λ i. choice s) b None e ∙ ap₂ (λ (x : Answer) (y : Bench). (x, y)) (sym w.0) (x.2 (left b.line) (omega arith)))
 
 pub work_off_promise : (S : Type 0) (choice : S → List ℕ → ℕ) (next : S → List ℕ → S → Type 0) → ((s : S) → Chooses (choice s)) → WorkOffPromise S choice next
 work_off_promise S choice next chooses k c law ls n b reached = record {
