@@ -2,7 +2,7 @@
 use Rattle.std.proofs.Common.{◌≡◌, ℕ, zero, suc, ◌<◌, Bool, true, false, cond, not, ◌&&◌, ◌||◌, eqb, List, [], ◌∷◌, ◌++◌, length, sym, refl, ap, ◌∙◌, ⊎_elim, arith}
 use Rattle.std.specs.List.{AllByRecursion}
 use Rattle.std.proofs.lemmas.List.{get_or_past}
-use Rattle.std.proofs.lemmas.Bool.{both_ways, not-true, not_from_false, and_parts, and_from, or_parts, or_from, or_left, or_right, cases_Bool, cases_lt, cases_eq, ne_eqb, eq-eqb}
+use Rattle.std.proofs.lemmas.Bool.{not_from_false, and_parts, and_from, cases_Bool, cases_lt, cases_eq, ne_eqb, eq-eqb}
 use Rattle.cards.specs.declared.lines.Access.{Access}
 use Rattle.cards.specs.declared.lines.Access.TheVariants.{Rd, Wr, Cm}
 use Rattle.cards.specs.declared.lines.Level.{Level}
@@ -24,19 +24,19 @@ not_held Immediate e = cc
 
 declares_nothing : (d : Declared) → declares d ≡ false → (b : Access) → held (state d b) ≡ false
 unfolding declares
-declares_nothing d e Rd = (or_parts (held d.reads) (held d.writes || held d.commutes) e).0
-declares_nothing d e Wr = (or_parts (held d.writes) (held d.commutes) (or_parts (held d.reads) (held d.writes || held d.commutes) e).1).0
-declares_nothing d e Cm = (or_parts (held d.writes) (held d.commutes) (or_parts (held d.reads) (held d.writes || held d.commutes) e).1).1
+declares_nothing d e Rd = grind arith
+declares_nothing d e Wr = grind arith
+declares_nothing d e Cm = grind arith
 
 passes_bars : (d : Declared) {a b : Access} → passes a d ≡ true → Bars a b → held (state d b) ≡ false
 unfolding passes
-passes_bars d e rd_wr = (or_parts _ _ (not-true _ e)).0
-passes_bars d e rd_cm = (or_parts _ _ (not-true _ e)).1
+passes_bars d e rd_wr = grind arith
+passes_bars d e rd_cm = grind arith
 passes_bars d e wr_rd = cc
 passes_bars d e wr_wr = cc
 passes_bars d e wr_cm = cc
-passes_bars d e cm_rd = (or_parts _ _ (not-true _ e)).0
-passes_bars d e cm_wr = (or_parts _ _ (not-true _ e)).1
+passes_bars d e cm_rd = grind arith
+passes_bars d e cm_wr = grind arith
 
 -- an entry that passes where there is one
 abbrev Lets : Access → Declared → Type 0
@@ -47,9 +47,9 @@ lets_from d a h b x = ⊎_elim (λ e. not_held _ (passes_bars d (h e) x)) (λ e.
 
 lets_passes : (d : Declared) (a : Access) → Lets a d → declares d ≡ true → passes a d ≡ true
 unfolding passes declares
-lets_passes d Rd h e = not_from_false _ (or_from _ _ (ap held (h Wr rd_wr)) (ap held (h Cm rd_cm)))
-lets_passes d Wr h e = absurd (both_ways _ (or_from _ _ (ap held (h Rd wr_rd)) (or_from _ _ (ap held (h Wr wr_wr)) (ap held (h Cm wr_cm)))) e)
-lets_passes d Cm h e = not_from_false _ (or_from _ _ (ap held (h Rd cm_rd)) (ap held (h Wr cm_wr)))
+lets_passes d Rd h e = rw (h Wr rd_wr, h Cm rd_cm)
+lets_passes d Wr h e = absurd (grind (arith, e, ap held (h Rd wr_rd), ap held (h Wr wr_wr), ap held (h Cm wr_cm)))
+lets_passes d Cm h e = rw (h Rd cm_rd, h Wr cm_wr)
 
 -- One more task at the front of the line.
 
@@ -87,9 +87,9 @@ clear_apart s (u ∷ us) rest f h =
 
 declares_own : (d : Declared) (a : Access) → state d a ≡ Immediate → declares d ≡ true
 unfolding declares
-declares_own d Rd e = or_left (held d.reads) (held d.writes || held d.commutes) (ap held e)
-declares_own d Wr e = or_right (held d.reads) (held d.writes || held d.commutes) (or_left (held d.writes) (held d.commutes) (ap held e))
-declares_own d Cm e = or_right (held d.reads) (held d.writes || held d.commutes) (or_right (held d.writes) (held d.commutes) (ap held e))
+declares_own d Rd e = rw e
+declares_own d Wr e = grind (arith, ap held e)
+declares_own d Cm e = grind (arith, ap held e)
 
 pub apart_clear : (s : Member) (before behind : List Member) → AllByRecursion (λ u. Apart u.task s.task) before → Clear (before ++ (s ∷ behind)) s
 unfolding queue on
@@ -136,9 +136,9 @@ ready_clear line s h o a i =
     rw i at (pick a p)
   where
     pick : (a : Access) → (clear_for line s o Rd && (clear_for line s o Wr && clear_for line s o Cm)) ≡ true → clear_for line s o a ≡ true
-    pick Rd p = (and_parts (clear_for line s o Rd) (clear_for line s o Wr && clear_for line s o Cm) p).0
-    pick Wr p = (and_parts (clear_for line s o Wr) (clear_for line s o Cm) (and_parts (clear_for line s o Rd) (clear_for line s o Wr && clear_for line s o Cm) p).1).0
-    pick Cm p = (and_parts (clear_for line s o Wr) (clear_for line s o Cm) (and_parts (clear_for line s o Rd) (clear_for line s o Wr && clear_for line s o Cm) p).1).1
+    pick Rd p = grind arith
+    pick Wr p = grind arith
+    pick Cm p = grind arith
 
 pub clear_ready : (line : List Member) (s : Member) → is_stuck s.status ≡ false → Clear line s → ready line s ≡ true
 unfolding ready
