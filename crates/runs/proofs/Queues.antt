@@ -2,7 +2,7 @@
 use Rattle.std.proofs.Common.{◌≡◌, ℕ, zero, suc, ◌<◌, Bool, true, false, cond, not, ◌&&◌, ◌||◌, eqb, List, [], ◌∷◌, ◌++◌, length, sym, refl, ap, ◌∙◌, ⊎_elim, arith}
 use Rattle.std.specs.List.{AllByRecursion}
 use Rattle.std.proofs.lemmas.List.{get_or_past}
-use Rattle.std.proofs.lemmas.Bool.{not_from_false, and_parts, and_from, cases_Bool, cases_lt, cases_eq, ne_eqb, eq-eqb}
+use Rattle.std.proofs.lemmas.Bool.{and_parts, cases_Bool, cases_lt, cases_eq, ne_eqb, eq-eqb}
 use Rattle.cards.specs.declared.lines.Access.{Access}
 use Rattle.cards.specs.declared.lines.Access.TheVariants.{Rd, Wr, Cm}
 use Rattle.cards.specs.declared.lines.Level.{Level}
@@ -55,7 +55,7 @@ lets_passes d Cm h e = rw (h Rd cm_rd, h Wr cm_wr)
 
 entry_clear : (x : Bool) (a : Access) (n : ℕ) (e : Entry) (q : List Entry) → (e.number ≡ n → ⊥) → clear a (earlier n (cond x (e ∷ q) q)) ≡ true → (x ≡ true → passes a e.declared ≡ true) × (clear a (earlier n q) ≡ true)
 unfolding clear earlier
-entry_clear true a n e q f h = let g = and_parts (passes a e.declared) (clear a (earlier n q)) (rw (ne_eqb e.number n f) at h) in ((λ y. g.0), g.1)
+entry_clear true a n e q f h = let g = rw (ne_eqb e.number n f) at h in ((λ y. grind arith), grind arith)
 entry_clear false a n e q f h = ((λ y. cc), h)
 
 clear_entry : (x : Bool) (a : Access) (n : ℕ) (e : Entry) (q : List Entry) → (x ≡ true → passes a e.declared ≡ true) → clear a (earlier n q) ≡ true → clear a (earlier n (cond x (e ∷ q) q)) ≡ true
@@ -64,7 +64,7 @@ clear_entry true a n e q p h = go (eqb e.number n)
   where
     go : (y : Bool) → clear a (cond y [] (e ∷ earlier n q)) ≡ true
     go true = refl
-    go false = and_from _ _ (p refl) h
+    go false = rw (p refl, h)
 clear_entry false a n e q p h = h
 
 clear_own : (x : Bool) (a : Access) (n : ℕ) (e : Entry) (q : List Entry) → x ≡ true → e.number ≡ n → clear a (earlier n (cond x (e ∷ q) q)) ≡ true
@@ -103,14 +103,12 @@ apart_clear s (u ∷ us) behind h o a i =
 each_below : (n : ℕ) (f : ℕ → Bool) → each n f ≡ true → (i : ℕ) → i < n → f i ≡ true
 unfolding each
 each_below zero f h i l = absurd (omega arith)
-each_below (suc n) f h i l =
-    let p = and_parts (f n) (each n f) h in
-    ⊎_elim (λ e. rw e p.0) (λ g. each_below n f p.1 i (omega arith)) (cases_eq i n)
+each_below (suc n) f h i l = ⊎_elim (λ e. rw e (grind arith)) (λ g. each_below n f (grind arith) i (omega arith)) (cases_eq i n)
 
 below_each : (n : ℕ) (f : ℕ → Bool) → ((i : ℕ) → f i ≡ true) → each n f ≡ true
 unfolding each
 below_each zero f h = refl
-below_each (suc n) f h = and_from _ _ (h n) (below_each n f h)
+below_each (suc n) f h = rw (h n) (below_each n f h)
 
 immediate_within : (t : Task) (o : ℕ) (a : Access) → at t o a ≡ Immediate → o < length t.declared
 immediate_within t o a e = ⊎_elim (λ l. l) (λ g. absurd (past a (ap (λ d. state d a) (sym (get_or_past t.declared o nothing g)) ∙ e))) (cases_lt o (length t.declared))
@@ -144,4 +142,4 @@ pub clear_ready : (line : List Member) (s : Member) → is_stuck s.status ≡ fa
 unfolding ready
 clear_ready line s e h =
     let one : (o : ℕ) (a : Access) → clear_for line s o a ≡ true = λ o a. clear_for_true line s o a (h o a) in
-    and_from _ _ (not_from_false _ e) (below_each _ _ (λ o. and_from _ _ (one o Rd) (and_from _ _ (one o Wr) (one o Cm))))
+    rw e (below_each _ _ (λ o. rw (one o Rd, one o Wr) (one o Cm)))
