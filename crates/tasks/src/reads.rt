@@ -22,7 +22,7 @@ impl<'c> Tasks<'c> {
         ensures number { result ≡ length (tasks_of self.now) }
         ensures most { result ≤ 64 }
     {
-        self.records.len() as u8
+        self.tasks.len() as u8
     }
 
     // The word in each object.
@@ -36,22 +36,16 @@ impl<'c> Tasks<'c> {
     pub fn place(&self, n: u8) -> Option<Place>
         ensures { option_map ranks_of result ≡ option_map (λ t. t.place) (slice_get (tasks_of self.now) n) }
     {
-        if (n as usize) < self.works.len() {
-            Some(self.works[n as usize].place())
-        } else {
-            None
-        }
+        Some(self.tasks.get(n as usize)?.work.place())
     }
 
     // What a task declares on each object, or nothing where no task has the number.
     pub fn declared(&self, n: u8) -> &[Declared]
         ensures { result.now ≡ declared_by (slice_get (tasks_of self.now) n) }
     {
-        if (n as usize) < self.records.len() {
-            let own = &self.records[n as usize];
-            &own.declared[..own.objects as usize]
-        } else {
-            &[]
+        match self.tasks.get(n as usize) {
+            Some(task) => &task.own.declared[..task.own.objects as usize],
+            None => &[],
         }
     }
 
@@ -59,11 +53,9 @@ impl<'c> Tasks<'c> {
     pub fn declares(&self, n: u8, object: u8) -> Declared
         ensures { result ≡ slice_index_or (declared_by (slice_get (tasks_of self.now) n)) object nothing }
     {
-        let all = self.declared(n);
-        if (object as usize) < all.len() {
-            all[object as usize]
-        } else {
-            NOTHING
+        match self.declared(n).get(object as usize) {
+            Some(declared) => *declared,
+            None => NOTHING,
         }
     }
 }

@@ -9,7 +9,7 @@ use Rattle.working.specs.declared.record.Record.{Record}
 use Rattle.working.specs.declared.work.Work.{Work}
 use Rattle.working.specs.declared.work.Fresh.{Fresh}
 use Rattle.working.specs.declared.step.Stepped.TheVariants.{Fault, Went, Amended, Finished, Made}
-use Rattle.working.specs.declared.pile.Task.{Task}
+use Rattle.working.specs.declared.task.Task.{Task}
 use Rattle.working.specs.Works.{ranks_of, work_of}
 use Rattle.working.specs.Steps.{task_of, fresh_task, Answered}
 use Rattle.working.specs.Piles.{model_of, piled}

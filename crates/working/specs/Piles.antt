@@ -2,7 +2,7 @@
 use Rattle.std.specs.Prelude.{ℕ, List, [], ◌∷◌}
 use Rattle.working.specs.Tasks as Tasks
 use Rattle.working.specs.Serial as Serial
-use Rattle.working.specs.declared.pile.Task.{Task}
+use Rattle.working.specs.declared.task.Task.{Task}
 use Rattle.working.specs.declared.pile.Stop.{Stop}
 use Rattle.working.specs.declared.pile.Stop.TheVariants.{Done, Fault}
 use Rattle.working.specs.declared.pile.Ran.{Ran}

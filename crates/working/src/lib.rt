@@ -17,6 +17,7 @@ mod place;
 mod record;
 mod serial;
 mod step;
+mod task;
 mod work;
 
 pub use declared::Declared;
@@ -25,4 +26,5 @@ pub use place::Place;
 pub use record::Record;
 pub use serial::{Outcome, Worked, starting_words, work_serially};
 pub use step::Stepped;
+pub use task::Task;
 pub use work::{Frames, Fresh, Work};

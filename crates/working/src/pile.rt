@@ -8,19 +8,12 @@ ghost use Rattle.working.specs.Piles.{ran_of};
 
 use crate::fault::FaultKind;
 use crate::place::Place;
-use crate::record::Record;
 use crate::step::Stepped;
+use crate::task::Task;
 use crate::work::{Frames, Work};
 use kinds::ValueKind;
 use std::alloc::{AllocError, Global};
 use std::mem;
-
-// A task that waits for its child.
-#[derive(Drop)]
-pub(crate) struct Task<'c> {
-    pub own: Record,
-    pub work: Work<'c>,
-}
 
 // All tasks are finished, or one faults.
 #[derive(Clone, Copy)]

@@ -7,9 +7,10 @@ ghost use Rattle.working.specs.Results.{WorkedSerially};
 
 use crate::declared::Declared;
 use crate::fault::FaultKind;
-use crate::pile::{Stop, Task, work_off};
+use crate::pile::{Stop, work_off};
 use crate::place::Place;
 use crate::record::Record;
+use crate::task::Task;
 use crate::work::{Frames, Fresh, Work};
 use cards::{Card, Level};
 use kinds::ValueKind;

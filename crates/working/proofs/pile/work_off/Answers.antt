@@ -5,7 +5,7 @@ use Rattle.working.specs.Requests.{makes}
 use Rattle.working.specs.Serial.{Serial, made_by, fault, result}
 use Rattle.working.specs.declared.place.Place.{Place}
 use Rattle.working.specs.declared.work.Work.{Work}
-use Rattle.working.specs.declared.pile.Task.{Task}
+use Rattle.working.specs.declared.task.Task.{Task}
 use Rattle.working.specs.Works.{ranks_of, work_of}
 use Rattle.working.specs.Steps.{task_of, fresh_task}
 use Rattle.working.proofs.Begins.{task_of_begun}

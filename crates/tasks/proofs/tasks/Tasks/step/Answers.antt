@@ -13,7 +13,7 @@ add-requires g c =
     let s = c.args.self.now in
     let h = c.in-Made.ensures in
     record {
-      room = omega (arith, s.few, h.count, ap to_make h.works, to_make_set s.works.items c.args.n h.work h.work' h.work_is, step_makes _ _ _ _ _ _ _ _ h.answer);
+      room = omega (arith, s.few, h.count, ap to_make h.tasks, to_make_set s.tasks.items c.args.n h.before h.after h.found, step_makes _ h.before h.after _ _ _ h.answer);
       sized = h.sized ∙ sym h.objects;
     }
 
