@@ -5,7 +5,7 @@ use Rattle.std.specs.Option.{option_map}
 use Rattle.std.proofs.lemmas.List.{length-map}
 use Rattle.std.proofs.lemmas.Option.{slice_get-map}
 use Rattle.working.specs.declared.task.Task.{Task}
-use Rattle.working.specs.Piles.{model_of}
+use Rattle.working.specs.Steps.{model_of}
 use Rattle.tasks.specs.declared.tasks.Tasks.{Tasks}
 use Rattle.tasks.specs.Views.{tasks_of}
 

@@ -1,5 +1,5 @@
 -- Room for tasks.
-use Rattle.std.proofs.Common.{◌≡◌, ℕ, suc, ◌+◌, ◌<◌, ◌≤◌, List, [], ◌∷◌, ◌++◌, get_or, set, replicate, Some, sym, ap, ◌∙◌, arith}
+use Rattle.std.proofs.Common.{◌≡◌, ℕ, suc, ◌+◌, ◌<◌, ◌≤◌, List, [], ◌∷◌, ◌++◌, get_or, set, replicate, Some, Result, Ok, Err, sym, ap, ◌∙◌, arith}
 use Rattle.std.specs.List.{slice_get}
 use Rattle.std.specs.Option.{option_map}
 use Rattle.std.proofs.Math.Seq.{map-set_same}
@@ -10,13 +10,13 @@ use Rattle.kinds.specs.Kinds.{Kind}
 use Rattle.cards.specs.Bounds.{task_bound}
 use Rattle.cards.specs.Trees.{block_of}
 use Rattle.working.specs.declared.task.Task.{Task}
+use Rattle.working.specs.declared.fault.Fault.{Fault}
 use Rattle.working.specs.declared.step.Stepped.{Stepped}
-use Rattle.working.specs.declared.step.Stepped.TheVariants.{Fault, Went, Amended, Finished, Made}
+use Rattle.working.specs.declared.step.Stepped.TheVariants.{Went, Amended, Finished, Made}
 use Rattle.working.specs.Tasks as Tasks
-use Rattle.working.specs.Piles.{model_of}
 use Rattle.working.specs.Requests.{goes, makes}
 use Rattle.working.specs.Serial.{segment, made_by}
-use Rattle.working.specs.Steps.{fresh_task, Answered}
+use Rattle.working.specs.Steps.{model_of, fresh_task, Answered}
 use Rattle.working.proofs.Fine.{total_tasks, fine_reply}
 use Rattle.tasks.specs.Rooms.{bound, to_make, sizes}
 
@@ -29,21 +29,21 @@ unfolding to_make
 to_make_push ts t = sum_by_push bound ts t
 
 -- a child and the tasks that it can make
-abbrev pub child_tasks : Stepped → ℕ
-child_tasks (Fault f l) = 0
-child_tasks Went = 0
-child_tasks Amended = 0
-child_tasks Finished = 0
-child_tasks (Made u f) = suc (task_bound (block_of f.body.now))
+abbrev pub child_tasks : Result Stepped Fault → ℕ
+child_tasks (Err f) = 0
+child_tasks (Ok Went) = 0
+child_tasks (Ok Amended) = 0
+child_tasks (Ok Finished) = 0
+child_tasks (Ok (Made u f)) = suc (task_bound (block_of f.body.now))
 
 -- a step's child and what is left can make no more tasks than the task could
-pub step_makes : (k : Kind) (t t' : Task) (m m' : List ℕ) (a : Stepped) → Answered k t.own t.work m a t'.own t'.work m' → child_tasks a + bound t' ≤ bound t
+pub step_makes : (k : Kind) (t t' : Task) (m m' : List ℕ) (a : Result Stepped Fault) → Answered k t m a t' m' → child_tasks a + bound t' ≤ bound t
 unfolding Answered segment made_by total_tasks
-step_makes k t t' m m' (Fault f l) h = omega (arith, ap (λ (x : Tasks.Task). task_bound x.work) h.1)
-step_makes k t t' m m' Went h = omega (arith, (fine_reply k m (model_of t) (goes (model_of t')) h.0).counts)
-step_makes k t t' m m' Amended h = omega (arith, (fine_reply k m (model_of t) (goes (model_of t')) h.0).counts)
-step_makes k t t' m m' Finished h = omega (arith, ap (λ (x : Tasks.Task). task_bound x.work) h.2)
-step_makes k t t' m m' (Made u f) h = omega (arith, (fine_reply k m (model_of t) (makes (fresh_task u f) (model_of t')) h.0).counts)
+step_makes k t t' m m' (Err f) h = omega (arith, ap (λ (x : Tasks.Task). task_bound x.work) h.1)
+step_makes k t t' m m' (Ok Went) h = omega (arith, (fine_reply k m (model_of t) (goes (model_of t')) h.0).counts)
+step_makes k t t' m m' (Ok Amended) h = omega (arith, (fine_reply k m (model_of t) (goes (model_of t')) h.0).counts)
+step_makes k t t' m m' (Ok Finished) h = omega (arith, ap (λ (x : Tasks.Task). task_bound x.work) h.2)
+step_makes k t t' m m' (Ok (Made u f)) h = omega (arith, (fine_reply k m (model_of t) (makes (fresh_task u f) (model_of t')) h.0).counts)
 
 pub sizes_set : (ts : List Task) (i : ℕ) (t t' : Task) → slice_get ts i ≡ Some t → t'.own.objects ≡ t.own.objects → sizes (set ts i t') ≡ sizes ts
 unfolding sizes

@@ -3,7 +3,7 @@ use Rattle.std.proofs.Common.{◌≡◌, ℕ, length, Some, sym, ap, ◌∙◌, 
 use Rattle.std.specs.List.{slice_get}
 use Rattle.std.proofs.lemmas.Option.{slice_get_within}
 use Rattle.working.specs.Tasks.{Task}
-use Rattle.working.specs.Piles.{model_of}
+use Rattle.working.specs.Steps.{model_of}
 use Rattle.working.proofs.Sections.{length_declared}
 use Rattle.tasks.specs.declared.tasks.Tasks.{Tasks}
 use Rattle.tasks.specs.Views.{store_of, tasks_of}

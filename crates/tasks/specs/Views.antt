@@ -2,7 +2,7 @@
 use Rattle.std.specs.Prelude.{ℕ, List, [], map, Some, None, vec_items, Option}
 use Rattle.working.specs.declared.declared.Declared.{Declared}
 use Rattle.working.specs.Tasks.{Task}
-use Rattle.working.specs.Piles.{model_of}
+use Rattle.working.specs.Steps.{model_of}
 use Rattle.tasks.specs.declared.tasks.Tasks.{Tasks}
 
 abbrev pub store_of : Tasks → List ℕ

@@ -7,14 +7,7 @@ ghost use Rattle.working.specs.Works.{ranks_of};
 ghost use Rattle.tasks.specs.Views.{store_of, tasks_of, declared_by};
 
 use crate::tasks::Tasks;
-use cards::Level;
 use working::{Declared, Place};
-
-const NOTHING: Declared = Declared {
-    reads: Level::Absent,
-    writes: Level::Absent,
-    commutes: Level::Absent,
-};
 
 impl<'c> Tasks<'c> {
     // How many tasks were made.
@@ -36,15 +29,15 @@ impl<'c> Tasks<'c> {
     pub fn place(&self, n: u8) -> Option<Place>
         ensures { option_map ranks_of result ≡ option_map (λ t. t.place) (slice_get (tasks_of self.now) n) }
     {
-        Some(self.tasks.get(n as usize)?.work.place())
+        Some(self.tasks.get(usize::from(n))?.work.place())
     }
 
     // What a task declares on each object, or nothing where no task has the number.
     pub fn declared(&self, n: u8) -> &[Declared]
         ensures { result.now ≡ declared_by (slice_get (tasks_of self.now) n) }
     {
-        match self.tasks.get(n as usize) {
-            Some(task) => &task.own.declared[..task.own.objects as usize],
+        match self.tasks.get(usize::from(n)) {
+            Some(task) => task.own.declared(),
             None => &[],
         }
     }
@@ -53,9 +46,7 @@ impl<'c> Tasks<'c> {
     pub fn declares(&self, n: u8, object: u8) -> Declared
         ensures { result ≡ slice_index_or (declared_by (slice_get (tasks_of self.now) n)) object nothing }
     {
-        match self.declared(n).get(object as usize) {
-            Some(declared) => *declared,
-            None => NOTHING,
-        }
+        let declared = self.declared(n).get(usize::from(object));
+        declared.copied().unwrap_or(Declared::NOTHING)
     }
 }

@@ -10,13 +10,11 @@ ghost use Rattle.tasks.specs.Moves.{Moves};
 
 use crate::tasks::Tasks;
 use kinds::ValueKind;
-use working::{FaultKind, Fresh, Record, Stepped, Task};
+use working::{Fault, Fresh, Record, Stepped, Task};
 
-// A fault and its line; or the task went on, with other declarations or not, is finished, or made the child of this
-// number.
-#[derive(Clone, Copy)]
+// The task went on, with other declarations or not, is finished, or made the child of this number.
+#[derive(Clone, Copy, Debug, PartialEq, Eq)]
 pub enum Progress {
-    Fault(FaultKind, u32),
     Went,
     Amended,
     Finished,
@@ -39,7 +37,7 @@ impl<'c> Tasks<'c> {
     }
 
     // One step of the task at an index.
-    fn advance<K: ValueKind>(&mut self, kind: &K, i: usize) -> Stepped<'c>
+    fn advance<K: ValueKind>(&mut self, kind: &K, i: usize) -> Result<Stepped<'c>, Fault>
         requires { i < vec_len self.old.tasks }
         ensures { Moves (K.ValueKind.kind kind.now) i self.old result self.new }
     {
@@ -47,7 +45,7 @@ impl<'c> Tasks<'c> {
     }
 
     // One step of the task of a number, or none where no task has it.
-    pub fn step<K: ValueKind>(&mut self, kind: &K, n: u8) -> Option<Progress>
+    pub fn step<K: ValueKind>(&mut self, kind: &K, n: u8) -> Option<Result<Progress, Fault>>
         ensures { Steps (K.ValueKind.kind kind.now) n self.old result self.new }
     {
         let i = n as usize;
@@ -55,11 +53,13 @@ impl<'c> Tasks<'c> {
             return None;
         }
         match self.advance(kind, i) {
-            Stepped::Fault(fault, line) => Some(Progress::Fault(fault, line)),
-            Stepped::Went => Some(Progress::Went),
-            Stepped::Amended => Some(Progress::Amended),
-            Stepped::Finished => Some(Progress::Finished),
-            Stepped::Made(child, fresh) => Some(Progress::Made(self.add(child, fresh))),
+            Err(fault) => Some(Err(fault)),
+            Ok(stepped) => Some(Ok(match stepped {
+                Stepped::Went => Progress::Went,
+                Stepped::Amended => Progress::Amended,
+                Stepped::Finished => Progress::Finished,
+                Stepped::Made(child, fresh) => Progress::Made(self.add(child, fresh)),
+            })),
         }
     }
 }

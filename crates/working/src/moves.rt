@@ -28,6 +28,13 @@ pub(crate) enum Head<'c> {
 }
 
 impl Place {
+    // The ranks of a task's makers and its own.
+    pub fn ranks(&self) -> &[u8]
+        ensures { result.now ≡ ranks_of self.now }
+    {
+        &self.ranks[..self.depth as usize]
+    }
+
     // The place of the child of this rank.
     fn child(self, rank: u8) -> Place
         requires { self.depth < 8 }
@@ -69,7 +76,7 @@ impl<'c> Fresh<'c> {
 
 impl<'c> Work<'c> {
     // The work of a task that begins.
-    pub fn begin(fresh: Fresh<'c>, frames: Frames<'c>) -> Work<'c>
+    pub(crate) fn begin(fresh: Fresh<'c>, frames: Frames<'c>) -> Work<'c>
         ensures work { work_of result ≡ block_of fresh.entry.body.now }
         ensures place { result.place ≡ fresh.entry.place }
         ensures children { result.children ≡ 0 }

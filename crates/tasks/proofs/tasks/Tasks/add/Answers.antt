@@ -3,7 +3,7 @@ use Rattle.std.specs.Option.{option_to_list}
 use Rattle.std.proofs.lemmas.List.{map_push}
 use Rattle.cards.specs.Bounds.{task_bound}
 use Rattle.working.specs.Tasks.{Task}
-use Rattle.working.specs.Piles.{model_of}
+use Rattle.working.specs.Steps.{model_of}
 use Rattle.working.specs.declared.work.Frames.{Frames}
 use Rattle.working.specs.declared.record.Record.{Record}
 use Rattle.tasks.specs.Rooms.{to_make, sizes}

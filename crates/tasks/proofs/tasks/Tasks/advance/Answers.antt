@@ -41,13 +41,13 @@ returns g c =
     let t = c.index_mut.result.now in
     let a = c.step in
     let e = with_items_is s.store a.new.store (a.auto.store ∙ c.deref_mut.ensures.len) in
-    let m = subst (λ (l : List ℕ). Answered k t.own t.work l a.result a.new.self.own a.new.self.work a.new.store) c.deref_mut.ensures.value a.ensures.answer in
+    let m = subst (λ (l : List ℕ). Answered k t l a.result a.new.self a.new.store) c.deref_mut.ensures.value a.ensures.answer in
     record {
       before = t;
       after = a.new.self;
       found = found g (goal.at.returns g c).After-index_mut;
       tasks = refl;
-      answer = subst (λ (l : List ℕ). Answered k t.own t.work s.store.items a.result a.new.self.own a.new.self.work l) (sym e) m;
+      answer = subst (λ (l : List ℕ). Answered k t s.store.items a.result a.new.self l) (sym e) m;
       count = refl;
       objects = refl;
       kept = a.ensures.kept;

@@ -9,7 +9,7 @@ use Rattle.working.specs.declared.task.Task.{Task}
 use Rattle.working.specs.declared.work.Fresh.{Fresh}
 use Rattle.working.specs.Tasks as Tasks
 use Rattle.working.specs.Tasks.{main, starting_words}
-use Rattle.working.specs.Piles.{model_of}
+use Rattle.working.specs.Steps.{model_of}
 use Rattle.working.specs.Works.{ranks_of}
 use Rattle.working.specs.Records.{task_with, MainRecord}
 use Rattle.working.specs.Steps.{fresh_task}
