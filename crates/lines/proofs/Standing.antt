@@ -1,7 +1,7 @@
 -- The states of the tasks, in the model's terms.
-use Rattle.std.proofs.Common.{◌≡◌, ℕ, ◌+◌, ◌<◌, ◌≤◌, Bool, true, false, ◌||◌, List, [], ◌∷◌, map, length, get_or, drop, sym, refl, ap, ◌∙◌, ⊎_elim, arith}
+use Rattle.std.proofs.Common.{◌≡◌, ℕ, Bool, true, false, ◌||◌, List, [], ◌∷◌, map, MatchOption, sym, refl, ap, ◌∙◌, ⊎_elim, arith}
 use mathlib.Core.Option.{Option, some, Option-elim}
-use Rattle.std.proofs.lemmas.List.{at_drop_more, at_drop_all}
+use Rattle.std.specs.List.{slice_get, list_any}
 use Rattle.std.proofs.lemmas.Bool.{cases_Bool, both_ways}
 use Rattle.working.specs.Tasks.{Task}
 use Rattle.runs.specs.Lines as Model
@@ -121,32 +121,16 @@ any_none : (ss : List State) (t : ℕ → Task) → any_out (members_at ss t [])
 unfolding any_out members_at
 any_none ss t = refl
 
-module _ (ss : List State) (ns : List ℕ) (t : ℕ → Task) (i : ℕ) where
-  at_place : (x : ℕ) → i < length ns → x ≡ get_or ns i x → (b : Bool) → b ≡ is_out (state_at ss x) → any_out (members_at ss t (drop i ns)) ≡ (b || any_out (members_at ss t (drop (i + 1) ns)))
-  at_place x lt read b is =
-      at_drop_more (λ (l : List ℕ). any_out (members_at ss t l)) ns i x lt ∙ any_front ss t (get_or ns i x) (drop (i + 1) ns)
-      ∙ ap (λ (c : Bool). c || any_out (members_at ss t (drop (i + 1) ns))) (ap (λ (y : ℕ). is_out (state_at ss y)) (sym read) ∙ sym is)
-
-  pub any_found : (x : ℕ) → i < length ns → x ≡ get_or ns i x → (b : Bool) → b ≡ is_out (state_at ss x) → b ≡ true → any_out (members_at ss t (drop i ns)) ≡ any_out (members_at ss t ns) → true ≡ any_out (members_at ss t ns)
-  any_found x lt read b is e h = sym (at_place x lt read b is ∙ ap (λ (c : Bool). c || any_out (members_at ss t (drop (i + 1) ns))) e) ∙ h
-
-  pub any_more : (x : ℕ) → i < length ns → x ≡ get_or ns i x → (b : Bool) → b ≡ is_out (state_at ss x) → b ≡ false → any_out (members_at ss t (drop i ns)) ≡ any_out (members_at ss t ns) → any_out (members_at ss t (drop (i + 1) ns)) ≡ any_out (members_at ss t ns)
-  any_more x lt read b is e h = sym (at_place x lt read b is ∙ ap (λ (c : Bool). c || any_out (members_at ss t (drop (i + 1) ns))) e) ∙ h
-
-  pub any_all : length ns ≤ i → any_out (members_at ss t (drop i ns)) ≡ any_out (members_at ss t ns) → false ≡ any_out (members_at ss t ns)
-  any_all ge h = sym (at_drop_all (λ (l : List ℕ). any_out (members_at ss t l)) ns i ge ∙ any_none ss t) ∙ h
+pub any_is : (ss : List State) (t : ℕ → Task) (ns : List ℕ) → list_any (λ n. is_out (state_at ss n)) ns ≡ any_out (members_at ss t ns)
+any_is ss t [] = sym (any_none ss t)
+any_is ss t (n ∷ ns) = ap (λ (b : Bool). is_out (state_at ss n) || b) (any_is ss t ns) ∙ sym (any_front ss t n ns)
 
 -- The first in line.
 
-pub first_there : (ss : List State) (t : ℕ → Task) (ns : List ℕ) (n : ℕ) → 0 < length ns → n ≡ get_or ns 0 n → (rest : List Member) × (members_at ss t ns ≡ member n (status_of (state_at ss n)) (t n) ∷ rest)
+pub first_is : (ss : List State) (t : ℕ → Task) (ns : List ℕ) → MatchOption (slice_get ns 0) (members_at ss t ns ≡ []) (λ n. (rest : List Member) × (members_at ss t ns ≡ member n (status_of (state_at ss n)) (t n) ∷ rest))
 unfolding members_at member_at
-first_there ss t [] n lt read = absurd (omega arith)
-first_there ss t (m ∷ ms) n lt read = (map (member_at ss t) ms, ap (λ (k : ℕ). member k (status_of (state_at ss k)) (t k) ∷ map (member_at ss t) ms) (sym read))
-
-pub first_none : (ss : List State) (t : ℕ → Task) (ns : List ℕ) → length ns ≤ 0 → members_at ss t ns ≡ []
-unfolding members_at
-first_none ss t [] le = refl
-first_none ss t (m ∷ ms) le = absurd (omega arith)
+first_is ss t [] = refl
+first_is ss t (n ∷ ns) = (map (member_at ss t) ns, refl)
 
 pub settled_none : (line : List Member) → line ≡ [] → true ≡ settled_line line
 unfolding settled_line

@@ -38,10 +38,7 @@ impl Line {
     pub fn look(&self, object: usize, place: usize) -> Option<Entry>
         ensures { (t : ℕ → Task) → Tells self.now t → shown result ≡ Queues.entry_at place (Queues.queue object (line_of self.now t)) }
     {
-        if object < self.queues.len() {
-            self.queues[object].entries.as_slice().get(place).copied()
-        } else {
-            None
-        }
+        let queue = self.queues.get(object)?;
+        queue.entries.get(place).copied()
     }
 }

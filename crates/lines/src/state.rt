@@ -13,14 +13,14 @@ pub enum State {
     Stuck(FaultKind, u32),
 }
 
-#[derive(Clone, Copy)]
+#[derive(Clone, Copy, Debug, PartialEq, Eq)]
 pub enum Event {
     Take,
     Perform,
     HandBack,
 }
 
-#[derive(Clone, Copy)]
+#[derive(Clone, Copy, Debug, PartialEq, Eq)]
 pub enum Deed {
     Refuse,
     Give,
@@ -43,36 +43,24 @@ impl State {
     pub(crate) fn is_finished(self) -> bool
         ensures { result ≡ States.is_finished self }
     {
-        match self {
-            State::Finished => true,
-            State::Waiting | State::Out | State::Stuck(_, _) => false,
-        }
+        matches!(self, State::Finished)
     }
 
     pub(crate) fn is_waiting(self) -> bool
         ensures { result ≡ States.is_waiting self }
     {
-        match self {
-            State::Waiting => true,
-            State::Finished | State::Out | State::Stuck(_, _) => false,
-        }
+        matches!(self, State::Waiting)
     }
 
     pub(crate) fn is_out(self) -> bool
         ensures { result ≡ States.is_out self }
     {
-        match self {
-            State::Out => true,
-            State::Finished | State::Waiting | State::Stuck(_, _) => false,
-        }
+        matches!(self, State::Out)
     }
 
     pub(crate) fn is_stuck(self) -> bool
         ensures { result ≡ States.is_stuck self }
     {
-        match self {
-            State::Stuck(_, _) => true,
-            State::Finished | State::Waiting | State::Out => false,
-        }
+        matches!(self, State::Stuck(_, _))
     }
 }
