@@ -1,6 +1,5 @@
 -- The line in the model's terms, and what it knows of each task.
-use Rattle.std.specs.Prelude.{◌≡◌, ℕ, Bool, true, false, List, [], ◌∷◌, Some, None, vec_items, vec_len, Option, ◌≢◌}
-use Rattle.std.proofs.Math.Option as model
+use Rattle.std.specs.Prelude.{◌≡◌, ℕ, Bool, true, false, List, [], ◌∷◌, Some, vec_items, vec_len, ◌≢◌}
 use Rattle.working.specs.declared.declared.Declared.{Declared}
 use Rattle.working.specs.Tasks.{Task}
 use Rattle.runs.specs.Lines.{Status, Member, member, find, replace}
@@ -48,12 +47,8 @@ TellsAlike n l l' = (t u : ℕ → Task) → But n t u → (u n).declared ≡ (t
 
 -- if b, task n stands in the line with this status
 abbrev pub FoundIf : Bool → ℕ → Status → Line → Type 0
-FoundIf b n s l = (t : ℕ → Task) → b ≡ true → find n (line_of l t) ≡ model.some (member n s (t n))
+FoundIf b n s l = (t : ℕ → Task) → b ≡ true → find n (line_of l t) ≡ Some (member n s (t n))
 
 -- as many objects, and as many tasks made
 abbrev pub SizedAs : Line → Line → Type 0
 SizedAs l l' = (object_count l' ≡ object_count l) × (l'.made ≡ l.made)
-
-abbrev pub shown : {X : Type 0} → Option X → model.Option X
-shown None = model.none
-shown (Some x) = model.some x

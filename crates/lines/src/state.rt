@@ -2,15 +2,15 @@
 ghost use Rattle.std.specs.Prelude.{◌≡◌};
 ghost use Rattle.lines.specs.States as States;
 
-use working::FaultKind;
+use working::Fault;
 
-// A task that was never made counts as finished; a stuck one has its fault and the line of that.
-#[derive(Clone, Copy)]
+// A task that was never made counts as finished; a stuck one has its fault.
+#[derive(Clone, Copy, Debug, PartialEq, Eq)]
 pub enum State {
     Finished,
     Waiting,
     Out,
-    Stuck(FaultKind, u32),
+    Stuck(Fault),
 }
 
 #[derive(Clone, Copy, Debug, PartialEq, Eq)]
@@ -35,7 +35,7 @@ pub fn decide(state: State, event: Event) -> Deed
         (State::Waiting, Event::Take) => Deed::Give,
         (State::Out, Event::Perform) => Deed::Step,
         (State::Out, Event::HandBack) => Deed::Return,
-        (State::Finished | State::Waiting | State::Out | State::Stuck(_, _), _) => Deed::Refuse,
+        (State::Finished | State::Waiting | State::Out | State::Stuck(_), _) => Deed::Refuse,
     }
 }
 
@@ -61,6 +61,6 @@ impl State {
     pub(crate) fn is_stuck(self) -> bool
         ensures { result ≡ States.is_stuck self }
     {
-        matches!(self, State::Stuck(_, _))
+        matches!(self, State::Stuck(_))
     }
 }

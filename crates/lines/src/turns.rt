@@ -11,7 +11,7 @@ ghost use Rattle.lines.specs.Lines.{state_of, line_of, Tells, Replaces, in_statu
 
 use crate::line::Line;
 use crate::state::{Deed, Event, State, decide};
-use working::FaultKind;
+use working::Fault;
 
 // Another state for a task that is not finished.
 fn put_state(states: &mut [State; 256], n: u8, state: State)
@@ -129,12 +129,12 @@ impl Line {
         self.mark(n, State::Waiting);
     }
 
-    // After a fault, at a line.
-    pub fn stick(&mut self, n: u8, fault: FaultKind, line: u32)
-        ensures line { Replaces n (in_status n (Model.stuck fault line)) self.old self.new }
+    // After a fault.
+    pub fn stick(&mut self, n: u8, fault: Fault)
+        ensures line { Replaces n (in_status n (Model.stuck fault.kind fault.line)) self.old self.new }
         ensures tells { TellsAlike n self.old self.new }
         ensures sized { SizedAs self.old self.new }
     {
-        self.mark(n, State::Stuck(fault, line));
+        self.mark(n, State::Stuck(fault));
     }
 }
