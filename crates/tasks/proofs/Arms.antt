@@ -1,5 +1,5 @@
 -- What a step answers and leaves, by how it moved its task.
-use Rattle.std.proofs.Common.{◌≡◌, ℕ, List, [], ◌∷◌, ◌++◌, length, map, set, Some, Result, Ok, Err, vec_items, sym, refl, ap, ◌∙◌, subst, arith}
+use Rattle.std.proofs.Common.{◌≡◌, ℕ, List, [], ◌∷◌, ◌++◌, length, map, set, Some, Result, Ok, Err, vec_items, sym, refl, ap, ◌∙◌, subst}
 use Rattle.std.specs.List.{slice_get}
 use Rattle.std.proofs.lemmas.List.{length-set, map-set}
 use Rattle.std.proofs.lemmas.Option.{slice_get_within}
@@ -26,8 +26,8 @@ unfolding reply stored
 stored_fault k m (fault g n) f l e = refl
 stored_fault k m (quiet x) f l e = refl
 stored_fault k m (read o x) f l e = refl
-stored_fault k m (write o w x) f l e = let z : ◌≡◌ {A = ℕ} 0 1 = cc in absurd (omega arith)
-stored_fault k m (join o w x) f l e = let z : ◌≡◌ {A = ℕ} 0 1 = cc in absurd (omega arith)
+stored_fault k m (write o w x) f l e = cc
+stored_fault k m (join o w x) f l e = cc
 
 -- the step, once it is known what it came to
 pub came : {k : Kind} {i : ℕ} {s s' : Tasks} {a : Result Stepped Fault} {x y : Stepped} → Moves k i s a s' → a ≡ Ok x → x ≡ y → Moves k i s (Ok y) s'

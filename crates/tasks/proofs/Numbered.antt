@@ -1,5 +1,5 @@
 -- Tasks by their numbers.
-use Rattle.std.proofs.Common.{◌≡◌, ℕ, zero, suc, List, [], ◌∷◌, length, map, set, Some, vec_len, sym, refl, ap, ◌∙◌, arith}
+use Rattle.std.proofs.Common.{◌≡◌, ℕ, zero, suc, List, [], ◌∷◌, length, map, set, Some, vec_len, sym, refl, ap, ◌∙◌}
 use Rattle.std.specs.List.{slice_get}
 use Rattle.std.specs.Option.{option_map}
 use Rattle.std.proofs.lemmas.List.{length-map}
@@ -10,7 +10,7 @@ use Rattle.tasks.specs.declared.tasks.Tasks.{Tasks}
 use Rattle.tasks.specs.Views.{tasks_of}
 
 pub get_set : {A : Type 0} (xs : List A) (i : ℕ) (x y : A) → slice_get xs i ≡ Some x → slice_get (set xs i y) i ≡ Some y
-get_set [] i x y e = let z : ◌≡◌ {A = ℕ} 0 1 = cc in absurd (omega arith)
+get_set [] i x y e = cc
 get_set (a ∷ xs) zero x y e = refl
 get_set (a ∷ xs) (suc i) x y e = get_set xs i x y e
 
@@ -27,6 +27,6 @@ length_tasks s = length-map s.tasks.items model_of ∙ sym s.tasks.ok.0
 
 -- what is found in a list that was mapped comes from an element there
 pub some_of : {A B : Type 0} (f : A → B) (xs : List A) (i : ℕ) (y : B) → slice_get (map f xs) i ≡ Some y → (x : A) × (slice_get xs i ≡ Some x) × (f x ≡ y)
-some_of f [] i y e = let z : ◌≡◌ {A = ℕ} 0 1 = cc in absurd (omega arith)
+some_of f [] i y e = cc
 some_of f (x ∷ xs) zero y e = let p : f x ≡ y = cc in (x, refl, p)
 some_of f (x ∷ xs) (suc i) y e = some_of f xs i y e
