@@ -7,9 +7,10 @@ ghost use Rattle.working.specs.Results.{WorkedSerially};
 
 use crate::declared::Declared;
 use crate::fault::TaskFault;
-use crate::pile::{Task, work_off};
+use crate::pile::work_off;
 use crate::record::Record;
-use crate::work::{Frames, Fresh, Work};
+use crate::task::Task;
+use crate::work::{Frames, Fresh};
 use cards::Card;
 use kinds::ValueKind;
 use std::alloc::{AllocError, Global};
@@ -47,12 +48,7 @@ pub fn starting_words<K: ValueKind>(
 ) -> Result<Vec<u32>, AllocError>
     ensures { IfOk result (λ v. v.items ≡ starting_words (K.ValueKind.kind kind.now) (card_of card.now)) }
 {
-    let mut store = Vec::new(heap);
-    let words = card.words();
-    for w in words {
-        store.push(kind.literal(*w))?;
-    }
-    Ok(store)
+    card.words().iter().map(|w| kind.literal(*w)).collect(heap)
 }
 
 // Works a card serially: a task that makes a child waits until the child is finished.
@@ -65,12 +61,9 @@ pub fn work_serially<K: ValueKind>(
 {
     let mut store = starting_words(heap, kind, card)?;
     let own = Record::main(kind, card);
-    let work = Work::begin(Fresh::main(card), Frames::new(heap)?);
-    let ran = work_off(heap, kind, Task { own, work }, &mut store)?;
-    let outcome = match ran.stop {
-        Ok(()) => Ok(store),
-        Err(fault) => Err(fault),
-    };
+    let main = Task::begin(own, Fresh::main(card), Frames::new(heap)?);
+    let ran = work_off(heap, kind, main, &mut store)?;
+    let outcome = ran.stop.and(Ok(store));
     Ok(Worked {
         outcome,
         steps: ran.steps,
