@@ -79,7 +79,7 @@ pub fn card_sheet(heap: Global, card: &Card) -> Result<Vec<u8>, AllocError>
 pub fn ordered_sheet(heap: Global, card: &Card) -> Result<Vec<u8>, AllocError>
     ensures { IfOk result (λ v. v.items ≡ Texts.card_sheet (card_of card.now)) }
 {
-    let mut order = CardOrder::new(card.order());
+    let mut order = CardOrder::from(card.order());
     match card.kind() {
         KindName::Tally => bench_sheet(heap, &Tally, card, &mut order),
         KindName::Flags => bench_sheet(heap, &Flags, card, &mut order),
