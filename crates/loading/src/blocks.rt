@@ -6,6 +6,7 @@ ghost use Rattle.loading.specs.Lines.{line_of};
 ghost use Rattle.loading.specs.Texts.{upcoming};
 ghost use Rattle.loading.specs.Blocks as Blocks;
 ghost use Rattle.loading.specs.Blocks.{AnswerIs, Forward, mark, mark_of, section_of, closed_block_of, read_section, read_block, statement_by, closer};
+ghost use Rattle.loading.specs.Loading.{section_ended};
 
 use crate::cursor::Cursor;
 use crate::line::{Keyword, Line};
@@ -100,14 +101,26 @@ fn close_block(said: Line, line: u32) -> Option<Closer>
     }
 }
 
-// A statement's block is ended by `end`; `next` is the line of the text after the last that was read.
-fn ended(closer: Closer, next: u32) -> Result<(), LineFault>
-    ensures { result ≡ Blocks.ended closer next }
-{
-    match closer {
-        Closer::End { .. } => Ok(()),
-        Closer::Else { line } => Err(LineFault::Misplaced { line }),
-        Closer::Out => Err(LineFault::Open { line: next }),
+impl Closer {
+    // A statement's block is ended by `end`; `next` is the line of the text after the last that was read.
+    fn ended(self, next: u32) -> Result<(), LineFault>
+        ensures { result ≡ Blocks.ended self next }
+    {
+        match self {
+            Closer::End { .. } => Ok(()),
+            Closer::Else { line } => Err(LineFault::Misplaced { line }),
+            Closer::Out => Err(LineFault::Open { line: next }),
+        }
+    }
+
+    // Main's block is ended by the end of the section.
+    pub(crate) fn ended_section(self) -> Result<(), LineFault>
+        ensures { result ≡ section_ended self }
+    {
+        match self {
+            Closer::End { line } | Closer::Else { line } => Err(LineFault::Misplaced { line }),
+            Closer::Out => Ok(()),
+        }
     }
 }
 
@@ -166,7 +179,7 @@ fn read_statement(
         Line::Add { left, right } => Ok(Statement::Add { left, right }),
         Line::Point { pointer, object } => {
             if object >= lines.objects {
-                return Err(LoadRefusal::Line(LineFault::NoObject { line: number }));
+                return Err(LineFault::NoObject { line: number }.into());
             }
             Ok(Statement::Point { pointer, object })
         }
@@ -179,7 +192,7 @@ fn read_statement(
             let (first, closer) = read_block(heap, lines, depth)?;
             if let Closer::Else { .. } = closer {
                 let (second, closer) = read_block(heap, lines, depth)?;
-                ended(closer, lines.number())?;
+                closer.ended(lines.number())?;
                 return Ok(Statement::IfElse {
                     left,
                     right,
@@ -187,20 +200,20 @@ fn read_statement(
                     second,
                 });
             }
-            ended(closer, lines.number())?;
+            closer.ended(lines.number())?;
             Ok(Statement::If { left, right, first })
         }
         Line::Repeat { count } => {
             let depth = inner_depth(depth, number)?;
             let (body, closer) = read_block(heap, lines, depth)?;
-            ended(closer, lines.number())?;
+            closer.ended(lines.number())?;
             Ok(Statement::Repeat { count, body })
         }
         Line::Keyword(Keyword::Task) => {
             let depth = inner_depth(depth, number)?;
             let section = read_section(heap, lines, SectionKind::Task)?;
             let (body, closer) = read_block(heap, lines, depth)?;
-            ended(closer, lines.number())?;
+            closer.ended(lines.number())?;
             Ok(Statement::Task { section, body })
         }
         Line::Keyword(Keyword::With) => {
@@ -208,7 +221,7 @@ fn read_statement(
             Ok(Statement::With { section })
         }
         Line::Declare { .. } | Line::Keyword(_) => {
-            Err(LoadRefusal::Line(LineFault::Misplaced { line: number }))
+            Err(LineFault::Misplaced { line: number }.into())
         }
     }
 }
