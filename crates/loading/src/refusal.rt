@@ -37,6 +37,8 @@ pub struct Told {
     pub word: u32,
 }
 
+// By hand: what a derived `From` makes stands in no contract, and the readers' clauses name it.
+
 impl From<WordFault> for LineFault {
     ghost from_gives = { λ w r. r ≡ Word w };
 

@@ -10,6 +10,13 @@ use crate::read_line::read_line;
 use crate::refusal::LineFault;
 use words::cut;
 
+// A line of the lines section, with its number in the text.
+#[derive(Clone, Copy)]
+pub struct Numbered {
+    pub line: Line,
+    pub number: u32,
+}
+
 impl<'a> Cursor<'a> {
     // The number of the next line in the text.
     pub(crate) fn number(&self) -> u32
@@ -37,20 +44,20 @@ impl<'a> Cursor<'a> {
 
     // What the next line of the lines section says, or nothing after the last.
     #[tactic(auto, using(crate::proofs::Sections::section_none), unfolding(crate::specs::Texts::upcoming))]
-    pub(crate) fn next(&mut self) -> Result<Option<Line>, LineFault>
+    pub(crate) fn next(&mut self) -> Result<Option<Numbered>, LineFault>
         ensures { Nexts result self.old self.new }
     {
-        let line = self.number();
+        let number = self.number();
         if self.left == 0 {
             if self.rest.is_empty() {
                 return Ok(None);
             }
-            return Err(LineFault::Surplus { line });
+            return Err(LineFault::Surplus { line: number });
         }
         let bytes = self.take_line()?;
         self.left -= 1;
-        let said = read_line(bytes, line)?;
-        Ok(Some(said))
+        let line = read_line(bytes, number)?;
+        Ok(Some(Numbered { line, number }))
     }
 
     // The cursor at the start of the lines section, after the header's lines.
