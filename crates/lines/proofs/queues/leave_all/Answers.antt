@@ -1,7 +1,7 @@
-use Rattle.std.proofs.Common.{get_or, refl, ap, arith, length}
+use Rattle.std.proofs.Common.{get_or, ap, arith, length}
 use Rattle.lines.specs.Stored.{queues_of}
 use Rattle.lines.specs.Changes.{left}
-use Rattle.lines.proofs.Rounds.{changed_none, changed_back, queue_more, left_past}
+use Rattle.lines.proofs.Rounds.{changed_back, queue_more, left_past}
 use Rattle.lines.proofs.queues.leave_all.Goals as goal
 
 pub loop-queue-preserved : goal.loop-queue-preserved

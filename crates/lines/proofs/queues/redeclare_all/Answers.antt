@@ -1,8 +1,8 @@
-use Rattle.std.proofs.Common.{get_or, refl, ap, arith, length}
+use Rattle.std.proofs.Common.{get_or, ap, arith, length}
 use Rattle.working.specs.Tasks.{nothing}
 use Rattle.lines.specs.Stored.{queues_of}
 use Rattle.lines.specs.Changes.{redeclared}
-use Rattle.lines.proofs.Rounds.{changed_none, changed_back, queue_more, redeclared_past}
+use Rattle.lines.proofs.Rounds.{changed_back, queue_more, redeclared_past}
 use Rattle.lines.proofs.queues.redeclare_all.Goals as goal
 
 pub loop-o-preserved : goal.loop-o-preserved

@@ -1,4 +1,4 @@
-use Rattle.std.proofs.Common.{◌≡◌, ℕ, ◌<◌, List, length, set, vec_items, sym, refl, ap, ◌∙◌, subst, arith}
+use Rattle.std.proofs.Common.{◌≡◌, ℕ, ◌<◌, List, length, set, vec_items, sym, ap, ◌∙◌, subst, arith}
 use Rattle.lines.specs.declared.state.State.TheVariants.{Finished}
 use Rattle.lines.specs.Rows.{itself, without}
 use Rattle.lines.specs.Stored.{queues_of, members_at}

@@ -1,4 +1,4 @@
-use Rattle.std.proofs.Common.{◌<◌, List, length, vec_items, sym, refl, ap, ◌∙◌, subst, arith}
+use Rattle.std.proofs.Common.{◌<◌, List, length, vec_items, sym, ap, ◌∙◌, subst, arith}
 use Rattle.lines.specs.declared.state.State.{State}
 use Rattle.lines.specs.Stored.{queues_of, members_at}
 use Rattle.lines.proofs.Queued.{queued_stored}

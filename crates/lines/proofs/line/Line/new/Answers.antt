@@ -1,4 +1,4 @@
-use Rattle.std.proofs.Common.{◌≡◌, ℕ, List, [], ◌∷◌, ◌++◌, length, get_or, vec_items, sym, refl, ap, ◌∙◌, subst, arith}
+use Rattle.std.proofs.Common.{◌≡◌, ℕ, List, [], ◌∷◌, ◌++◌, length, get_or, vec_items, sym, ap, ◌∙◌, subst, arith}
 use Rattle.lines.specs.Stored.{queues_of, members_at}
 use Rattle.lines.proofs.Stores.{length_queues, getD_empty}
 use Rattle.lines.proofs.Queued.{queued_stored}

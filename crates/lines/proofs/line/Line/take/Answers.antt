@@ -1,5 +1,4 @@
-use Rattle.std.proofs.Common.{◌≡◌, ℕ, ◌<◌, Bool, true, false, ◌&&◌, get_or, vec_items, sym, refl, ap, ◌∙◌, arith}
-use Rattle.std.proofs.lemmas.Bool.{cond-true, cond-false, both_ways}
+use Rattle.std.proofs.Common.{◌≡◌, ℕ, ◌<◌, Bool, true, false, ◌&&◌, get_or, vec_items, sym, ap, ◌∙◌, arith}
 use Rattle.working.specs.Tasks.{Task}
 use Rattle.runs.specs.Events.{can_take}
 use Rattle.lines.specs.declared.line.Line.{Line}
