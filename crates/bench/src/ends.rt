@@ -63,18 +63,8 @@ impl<'c, K: ValueKind> Bench<'c, K> {
     ) -> Result<Going, Refused<Going>>
         ensures { WorksAll (K.ValueKind.kind self.old.kind.now) S.Scheduler.choice S.Scheduler.next going scheduler.old self.old result scheduler.new self.new }
     {
-        if !self.admits(&going) {
-            return Err(Refused {
-                refusal: Refusal::Foreign,
-                given: going,
-            });
-        }
-        if self.line.any_out() {
-            return Err(Refused {
-                refusal: Refusal::Unsettled,
-                given: going,
-            });
-        }
+        let going = Refused::unless(self.admits(&going), Refusal::Foreign, going)?;
+        let going = Refused::unless(!self.line.any_out(), Refusal::Unsettled, going)?;
         self.settle(scheduler);
         Ok(going)
     }
@@ -83,21 +73,10 @@ impl<'c, K: ValueKind> Bench<'c, K> {
     pub fn close(&mut self, going: Going) -> Result<Closed, Refused<Going>>
         ensures { Closes (K.ValueKind.kind self.old.kind.now) going self.old result self.new }
     {
-        if !self.admits(&going) {
-            return Err(Refused {
-                refusal: Refusal::Foreign,
-                given: going,
-            });
-        }
+        let going = Refused::unless(self.admits(&going), Refusal::Foreign, going)?;
         let rests = self.line.is_settled() & !self.line.any_out();
-        if !rests {
-            return Err(Refused {
-                refusal: Refusal::Unsettled,
-                given: going,
-            });
-        }
-        let Going { run } = going;
+        let going = Refused::unless(rests, Refusal::Unsettled, going)?;
         self.closed = true;
-        Ok(Closed { run })
+        Ok(Closed { run: going.run })
     }
 }

@@ -51,20 +51,10 @@ impl<'c, K: ValueKind> Bench<'c, K> {
     pub fn sheet(&mut self, closed: Closed, buffer: &mut [u8]) -> Result<usize, Refused<Closed>>
         ensures { Writes (K.ValueKind.kind self.old.kind.now) closed buffer.old self.old result buffer.new self.new }
     {
-        if !self.has_closed(&closed) {
-            return Err(Refused {
-                refusal: Refusal::Foreign,
-                given: closed,
-            });
-        }
+        let closed = Refused::unless(self.has_closed(&closed), Refusal::Foreign, closed)?;
         self.fill_page();
         let length = self.page.len();
-        if length > buffer.len() {
-            return Err(Refused {
-                refusal: Refusal::BufferTooShort,
-                given: closed,
-            });
-        }
+        Refused::unless(length <= buffer.len(), Refusal::BufferTooShort, closed)?;
         buffer[..length].copy_from_slice(&self.page);
         Ok(length)
     }

@@ -50,25 +50,18 @@ impl<'c, K: ValueKind> Bench<'c, K> {
         if !self.admits(going) {
             return Err(Refusal::Foreign);
         }
-        match self.give(scheduler) {
-            None => Err(Refusal::NothingToOffer),
-            Some(task) => Ok(Turn {
-                run: self.run,
-                task,
-            }),
-        }
+        let task = self.give(scheduler).ok_or(Refusal::NothingToOffer)?;
+        Ok(Turn {
+            run: self.run,
+            task,
+        })
     }
 
     // One step of the turn's task: done, or the fault at which the task is now stuck.
     pub fn perform(&mut self, turn: Turn) -> Result<Performed, Refused<Turn>>
         ensures { Performs (K.ValueKind.kind self.old.kind.now) turn self.old result self.new }
     {
-        if !self.knows(&turn) {
-            return Err(Refused {
-                refusal: Refusal::Foreign,
-                given: turn,
-            });
-        }
+        let turn = Refused::unless(self.knows(&turn), Refusal::Foreign, turn)?;
         let Turn { run: _, task } = turn;
         Ok(self.advance(task))
     }
@@ -77,12 +70,7 @@ impl<'c, K: ValueKind> Bench<'c, K> {
     pub fn hand_back(&mut self, turn: Turn) -> Result<(), Refused<Turn>>
         ensures { HandsBack (K.ValueKind.kind self.old.kind.now) turn self.old result self.new }
     {
-        if !self.knows(&turn) {
-            return Err(Refused {
-                refusal: Refusal::Foreign,
-                given: turn,
-            });
-        }
+        let turn = Refused::unless(self.knows(&turn), Refusal::Foreign, turn)?;
         let Turn { run: _, task } = turn;
         self.line.hand_back(task);
         Ok(())

@@ -93,10 +93,10 @@ pub fn text_sheet(heap: Global, text: &[u8]) -> Result<Vec<u8>, AllocError>
     let mut slot = Slot::new(heap)?;
     match load_card(&mut slot, heap, text) {
         Ok(()) => ordered_sheet(heap, slot.card()),
-        Err(refusal) => match refusal.told() {
-            Some(t) => refused_sheet(heap, t.number, t.line, t.word),
-            None => Err(AllocError),
-        },
+        Err(refusal) => {
+            let t = refusal.told().ok_or(AllocError)?;
+            refused_sheet(heap, t.number, t.line, t.word)
+        }
     }
 }
 
