@@ -15,6 +15,7 @@ use schedulers::Scheduler;
 
 impl<'c, K: ValueKind> Bench<'c, K> {
     // Whether a going state is of this run, and the run is not closed.
+    #[tactic(auto, unfolding(runs::specs::Benches::bench, runs::specs::Tests::fits_going))]
     pub(crate) fn admits(&self, going: &Going) -> bool
         ensures { result ≡ fits_going (going_of going.now) (bench_of self.now) }
     {
@@ -22,6 +23,7 @@ impl<'c, K: ValueKind> Bench<'c, K> {
     }
 
     // Whether a turn is of this run, and out.
+    #[tactic(auto, unfolding(runs::specs::Benches::bench, runs::specs::Tests::fits_turn))]
     fn knows(&self, turn: &Turn) -> bool
         ensures { result ≡ fits_turn (turn_of turn.now) (bench_of self.now) }
     {
@@ -30,7 +32,7 @@ impl<'c, K: ValueKind> Bench<'c, K> {
 
     // Takes the turn of the task that the scheduler chooses from what is offered, and tells its number.
     pub(crate) fn give<S: Scheduler>(&mut self, scheduler: &mut S) -> Option<u8>
-        ensures { Gives (S.Scheduler.choice scheduler.old) S.Scheduler.next scheduler.old self.old result scheduler.new self.new }
+        ensures { Gives (S.choice scheduler.old) S.next scheduler.old self.old result scheduler.new self.new }
     {
         let mut offer = [0; 64];
         let count = self.line.offer(&mut offer);
@@ -44,8 +46,9 @@ impl<'c, K: ValueKind> Bench<'c, K> {
     }
 
     // The turn of the task that the scheduler chooses from those that are ready and have no turn out.
+    #[tactic(auto, using(crate::proofs::Calls::foreign), unfolding(runs::specs::Tests::fits))]
     pub fn take<S: Scheduler>(&mut self, going: &Going, scheduler: &mut S) -> Result<Turn, Refusal>
-        ensures { Takes (K.ValueKind.kind self.old.kind.now) S.Scheduler.choice S.Scheduler.next going.now scheduler.old self.old result scheduler.new self.new }
+        ensures { Takes (K.kind self.old.kind.now) S.choice S.next going.now scheduler.old self.old result scheduler.new self.new }
     {
         if !self.admits(going) {
             return Err(Refusal::Foreign);
@@ -58,8 +61,9 @@ impl<'c, K: ValueKind> Bench<'c, K> {
     }
 
     // One step of the turn's task: done, or the fault at which the task is now stuck.
+    #[tactic(auto, using(crate::proofs::Calls::foreign), unfolding(runs::specs::Benches::bench, runs::specs::Tests::fits, runs::specs::Tests::fits_turn))]
     pub fn perform(&mut self, turn: Turn) -> Result<Performed, Refused<Turn>>
-        ensures { Performs (K.ValueKind.kind self.old.kind.now) turn self.old result self.new }
+        ensures { Performs (K.kind self.old.kind.now) turn self.old result self.new }
     {
         let turn = Refused::unless(self.knows(&turn), Refusal::Foreign, turn)?;
         let Turn { run: _, task } = turn;
@@ -67,8 +71,9 @@ impl<'c, K: ValueKind> Bench<'c, K> {
     }
 
     // The turn is given up, and no step is made.
+    #[tactic(auto, using(crate::proofs::Calls::foreign), unfolding(runs::specs::Tests::fits))]
     pub fn hand_back(&mut self, turn: Turn) -> Result<(), Refused<Turn>>
-        ensures { HandsBack (K.ValueKind.kind self.old.kind.now) turn self.old result self.new }
+        ensures { HandsBack (K.kind self.old.kind.now) turn self.old result self.new }
     {
         let turn = Refused::unless(self.knows(&turn), Refusal::Foreign, turn)?;
         let Turn { run: _, task } = turn;
@@ -77,6 +82,7 @@ impl<'c, K: ValueKind> Bench<'c, K> {
     }
 
     // The entry at a place of an object's queue, from 0.
+    #[tactic(auto, unfolding(runs::specs::Benches::bench))]
     pub fn look(&self, object: usize, place: usize) -> Option<Entry>
         ensures { shown result ≡ entry_at place (queue object (bench_of self.now).line) }
     {

@@ -32,7 +32,7 @@ pub fn serial_sheet<K: ValueKind>(
     kind: &K,
     card: &Card,
 ) -> Result<Vec<u8>, AllocError>
-    ensures { IfOk result (λ v. v.items ≡ sheet_of (K.ValueKind.kind kind.now) (card_of card.now)) }
+    ensures { IfOk result (λ v. v.items ≡ sheet_of (K.kind kind.now) (card_of card.now)) }
 {
     let worked = work_serially(heap, kind, card)?;
     let made = worked.made;
@@ -54,7 +54,7 @@ pub fn bench_sheet<'c, K: ValueKind, S: Scheduler>(
     card: &'c Card,
     scheduler: &mut S,
 ) -> Result<Vec<u8>, AllocError>
-    ensures { IfOk result (λ v. v.items ≡ sheet_of (K.ValueKind.kind kind.now) (card_of card.now)) }
+    ensures { IfOk result (λ v. v.items ≡ sheet_of (K.kind kind.now) (card_of card.now)) }
 {
     let mut sheet = vec![in heap; 0; LONGEST]?;
     let (mut bench, going) = Bench::open(heap, kind, card, RUN)?;

@@ -1,4 +1,4 @@
-use Rattle.std.proofs.Common.{◌≡◌, ℕ, Bool, not, ◌&&◌, eqb, sym, refl, ap, ◌∙◌, subst, ap₂}
+use Rattle.std.proofs.Common.{◌≡◌, ℕ, Bool, not, ◌&&◌, eqb, sym, refl, ap, ◌∙◌, ap₂}
 use Rattle.std.proofs.lemmas.Bool.{and_parts, and_from, eqb-true, eq-eqb}
 use Rattle.runs.specs.declared.refusal.Refusal.TheVariants.{Unsettled}
 use Rattle.runs.specs.Benches as Model
@@ -14,51 +14,16 @@ use Rattle.tasks.specs.Views.{tasks_of}
 use Rattle.bench.specs.declared.tokens.Going.{Going}
 use Rattle.bench.specs.Tasks.{task_at}
 use Rattle.bench.specs.Views.{bench_of, going_of}
-use Rattle.bench.specs.Ends.{Closes}
 use Rattle.bench.proofs.Histories.{call_leads_on, settled_agrees}
-use Rattle.bench.proofs.Calls.{foreign, handed_on, refused_own, unless_false, unless_true}
+use Rattle.bench.proofs.Calls.{unless_true}
 use Rattle.bench.proofs.bench.Bench.close.Given as given
 use Rattle.bench.proofs.bench.Bench.close.Goals.{After-any_out}
 use Rattle.bench.proofs.bench.Bench.close.Goals as goal
-
-pub returns-in_err-going : goal.returns-in_err-going
-unfolding fits
-returns-in_err-going g c =
-    let b = c.args.self.now in
-    let k = g.K.ValueKind.kind b.kind.now in
-    let no = c.in_err-going.ensures in
-    subst (λ r. Closes k c.args.going b r b) (sym (handed_on c.from_residual.result c.from_residual.ensures.1 no.err))
-    (record {
-      answers = foreign k (close (going_of c.args.going)) (bench_of b) (sym c.admits.ensures ∙ sym no.granted);
-      back = refl;
-      fits = tt;
-      agrees = tt;
-      leads_on = λ _ _ h. h;
-      kind = refl;
-    })
 
 -- the test is the model's
 can : (g : given.Over) (c : After-any_out g) → (c.is_settled.result && not c.any_out.result) ≡ can_close (bench_of c.args.self.now)
 unfolding bench settled can_close
 can g c = let t = task_at (tasks_of c.args.self.now.tasks) in ap₂ (λ (x y : Bool). x && not y) (c.is_settled.ensures t) (c.any_out.ensures t)
-
-pub returns-in_err-going-2 : goal.returns-in_err-going-2
-unfolding fits own_refusal
-returns-in_err-going-2 g c =
-    let b = c.args.self.now in
-    let k = g.K.ValueKind.kind b.kind.now in
-    let own = c.in_ok-going.ensures in
-    let no = c.in_err-going-2.ensures in
-    let cannot = sym (can g (goal.at.returns-in_err-going-2 g c).After-any_out) ∙ sym no.granted in
-    subst (λ r. Closes k c.args.going b r b) (sym (handed_on c.from_residual-in_err-going-2.result c.from_residual-in_err-going-2.ensures.1 no.err))
-    (record {
-      answers = refused_own k (close (going_of c.args.going)) (bench_of b) Unsettled (sym c.admits.ensures ∙ sym own.granted) (unless_false _ Unsettled cannot);
-      back = own.ok;
-      fits = tt;
-      agrees = tt;
-      leads_on = λ _ _ h. h;
-      kind = refl;
-    })
 
 pub returns : goal.returns
 unfolding bench settled can_close shut fits fits_going fits_closed own_refusal granted effect

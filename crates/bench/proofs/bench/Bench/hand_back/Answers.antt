@@ -1,4 +1,4 @@
-use Rattle.std.proofs.Common.{◌≡◌, true, eqb, length, sym, refl, ap, ◌∙◌, subst, arith}
+use Rattle.std.proofs.Common.{◌≡◌, true, eqb, length, sym, refl, ap, ◌∙◌, arith}
 use Rattle.std.proofs.lemmas.Bool.{and_parts}
 use Rattle.runs.specs.Lines.{waiting, out}
 use Rattle.runs.specs.Benches as Model
@@ -13,26 +13,11 @@ use Rattle.tasks.specs.Views.{store_of, tasks_of}
 use Rattle.lines.specs.Lines.{line_of}
 use Rattle.bench.specs.Tasks.{task_at}
 use Rattle.bench.specs.Views.{bench_of, turn_of}
-use Rattle.bench.specs.Turns.{HandsBack}
 use Rattle.bench.proofs.Histories.{call_leads_on}
-use Rattle.bench.proofs.Calls.{foreign, handed_on, put_is, put_left}
+use Rattle.bench.proofs.Calls.{put_is, put_left}
 use Rattle.bench.proofs.bench.Bench.hand_back.Given as given
 use Rattle.bench.proofs.bench.Bench.hand_back.Goals.{After-hand_back}
 use Rattle.bench.proofs.bench.Bench.hand_back.Goals as goal
-
-pub returns-in_err-turn : goal.returns-in_err-turn
-unfolding fits
-returns-in_err-turn g c =
-    let b = c.args.self.now in
-    let k = g.K.ValueKind.kind b.kind.now in
-    let no = c.in_err-turn.ensures in
-    subst (λ r. HandsBack k c.args.turn b r b) (sym (handed_on c.from_residual.result c.from_residual.ensures.1 no.err))
-    (record {
-      answers = foreign k (hand_back (turn_of c.args.turn)) (bench_of b) (sym c.knows.ensures ∙ sym no.granted);
-      back = refl;
-      leads_on = λ _ _ h. h;
-      kind = refl;
-    })
 
 module _ (g : given.Over) (c : After-hand_back g) where
   same : c.in_ok-turn.turn ≡ c.args.turn

@@ -13,27 +13,10 @@ use Rattle.bench.specs.declared.tokens.Turn.{Turn}
 use Rattle.bench.specs.Tasks.{task_at}
 use Rattle.bench.specs.Views.{bench_of, turn_of, performed}
 use Rattle.bench.specs.Advances.{Advances}
-use Rattle.bench.specs.Turns.{Performs}
 use Rattle.bench.proofs.Histories.{call_leads_on}
-use Rattle.bench.proofs.Calls.{foreign, handed_on}
 use Rattle.bench.proofs.bench.Bench.perform.Given as given
 use Rattle.bench.proofs.bench.Bench.perform.Goals.{In_ok-turn}
 use Rattle.bench.proofs.bench.Bench.perform.Goals as goal
-
-pub returns-in_err-turn : goal.returns-in_err-turn
-unfolding fits
-returns-in_err-turn g c =
-    let b = c.args.self.now in
-    let k = g.K.ValueKind.kind b.kind.now in
-    let no = c.in_err-turn.ensures in
-    subst (λ r. Performs k c.args.turn b r b) (sym (handed_on c.from_residual.result c.from_residual.ensures.1 no.err))
-    (record {
-      answers = foreign k (perform (turn_of c.args.turn)) (bench_of b) (sym c.knows.ensures ∙ sym no.granted);
-      back = refl;
-      was_ready = tt;
-      leads_on = λ _ _ h. h;
-      kind = refl;
-    })
 
 module _ (g : given.Over) (c : In_ok-turn g) where
   known : fits_turn (turn_of c.args.turn) (bench_of c.args.self.now) ≡ true
@@ -42,10 +25,6 @@ module _ (g : given.Over) (c : In_ok-turn g) where
   out : has_turn c.args.turn.task (bench_of c.args.self.now).line ≡ true
   unfolding fits_turn
   out = (and_parts (eqb c.args.turn.run (bench_of c.args.self.now).run) _ known).1
-
-pub advance-requires : goal.advance-requires
-advance-requires g c =
-    subst (λ (t : Turn). has_turn t.task (bench_of c.args.self.now).line ≡ true) (sym c.in_ok-turn.ensures.ok) (out g (goal.at.advance-requires g c).In_ok-turn)
 
 pub returns : goal.returns
 unfolding bench fits own_refusal granted effect

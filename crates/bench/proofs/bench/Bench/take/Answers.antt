@@ -1,5 +1,5 @@
 use Rattle.std.proofs.Common.{◌≡◌, ℕ, true, Some, None, Err, sym, refl, ap, ◌∙◌, subst, ap₂, arith}
-use Rattle.std.proofs.lemmas.Bool.{both_ways, and_from, eq-eqb}
+use Rattle.std.proofs.lemmas.Bool.{and_from, eq-eqb}
 use Rattle.std.proofs.lemmas.Result.{err_from_is_err_and}
 use Rattle.runs.specs.declared.refusal.Refusal.TheVariants.{NothingToOffer}
 use Rattle.runs.specs.Lines.{out}
@@ -18,7 +18,7 @@ use Rattle.bench.specs.Views.{bench_of, going_of}
 use Rattle.bench.specs.Turns.{Gives, Takes}
 use Rattle.bench.specs.Histories.{LeadsOn}
 use Rattle.bench.proofs.Histories.{call_leads_on}
-use Rattle.bench.proofs.Calls.{foreign, refused_own}
+use Rattle.bench.proofs.Calls.{refused_own}
 use Rattle.bench.proofs.Worked.{given_out}
 use Rattle.bench.proofs.Picks.{nothing_settles, refuses_nothing, grants_some}
 use Rattle.bench.proofs.bench.Bench.take.Goals as goal
@@ -30,19 +30,6 @@ own_turn b n e = e
 own_fits : {K : Type 0} (b : Bench K) (n : ℕ) → has_turn n (bench_of b).line ≡ true → fits_turn (Call.turn_of b.run n) (bench_of b) ≡ true
 unfolding bench fits_turn
 own_fits b n e = and_from _ _ (eq-eqb b.run b.run refl) e
-
-pub returns-then-not-admits : goal.returns-then-not-admits
-unfolding fits
-returns-then-not-admits g c =
-    let out_of_place = sym c.admits.ensures ∙ c.if-not-admits.true in
-    record {
-      answers = foreign _ (Call.take (going_of c.args.going.now) (g.S.Scheduler.choice c.args.scheduler.now)) (bench_of c.args.self.now) out_of_place;
-      scheduler = refl;
-      fits = tt;
-      goes_on = λ e _ _. absurd (both_ways _ out_of_place e);
-      leads_on = λ _ _ h. h;
-      kind = refl;
-    }
 
 pub returns-in_err-task : goal.returns-in_err-task
 unfolding fits own_refusal

@@ -1,8 +1,8 @@
 use Rattle.std.proofs.Common.{◌≡◌, true, false, not, eqb, Ok, sym, refl, ap, ◌∙◌, subst}
-use mathlib.Core.Option.{Option, none, some}
+use mathlib.Core.Option.{Option, none}
 use Rattle.std.proofs.lemmas.Bool.{and_parts, and_from, not_from_false, not-true}
 use Rattle.runs.specs.declared.refusal.Refusal.{Refusal}
-use Rattle.runs.specs.declared.refusal.Refusal.TheVariants.{Foreign, Unsettled}
+use Rattle.runs.specs.declared.refusal.Refusal.TheVariants.{Unsettled}
 use Rattle.runs.specs.Lines.{any_out}
 use Rattle.runs.specs.Benches.{Bench, bench}
 use Rattle.runs.specs.Calls.{Going, work_off, Answer}
@@ -14,7 +14,7 @@ use Rattle.bench.specs.Tasks.{task_at}
 use Rattle.bench.specs.Views.{bench_of, going_of}
 use Rattle.bench.specs.Ends.{WorksAll}
 use Rattle.bench.proofs.Histories.{work_off_leads_on, settled_agrees}
-use Rattle.bench.proofs.Calls.{handed_on, foreign_refusal, own_refusal_is, unless_false, unless_true}
+use Rattle.bench.proofs.Calls.{own_refusal_is, unless_true}
 use Rattle.bench.proofs.bench.Bench.work_off.Given as given
 use Rattle.bench.proofs.bench.Bench.work_off.Goals.{In_ok-going-2}
 use Rattle.bench.proofs.bench.Bench.work_off.Goals as goal
@@ -23,46 +23,6 @@ use Rattle.bench.proofs.bench.Bench.work_off.Goals as goal
 still_fits : (h : Going) (b b' : Bench) → b'.run ≡ b.run → b'.closed ≡ false → fits_going h b ≡ true → fits_going h b' ≡ true
 unfolding fits_going
 still_fits h b b' e z f = and_from _ _ (ap (eqb h.run) e ∙ (and_parts (eqb h.run b.run) (not b.closed) f).0) (not_from_false _ z)
-
-pub returns-in_err-going : goal.returns-in_err-going
-unfolding fits
-returns-in_err-going g c =
-    let s = c.args.scheduler.now in
-    let b = c.args.self.now in
-    let k = g.K.ValueKind.kind b.kind.now in
-    let no = c.in_err-going.ensures in
-    let o = foreign_refusal k (work_off (going_of c.args.going) (λ i. g.S.Scheduler.choice s)) (bench_of b) (sym c.admits.ensures ∙ sym no.granted) in
-    subst (λ r. WorksAll k g.S.Scheduler.choice g.S.Scheduler.next c.args.going s b r s b) (sym (handed_on c.from_residual.result c.from_residual.ensures.1 no.err))
-    (record {
-      answers = subst (λ (x : Option Refusal). ByRefusal k g.row.S.Denot g.S.Scheduler.choice g.S.Scheduler.next x (going_of c.args.going) s (bench_of b) (Answer.refused Foreign) s (bench_of b)) (sym o) (refl, refl, refl);
-      back = refl;
-      fits = tt;
-      rests = tt;
-      agrees = tt;
-      leads_on = λ _ _ h. h;
-      kind = refl;
-    })
-
-pub returns-in_err-going-2 : goal.returns-in_err-going-2
-unfolding bench fits own_refusal
-returns-in_err-going-2 g c =
-    let s = c.args.scheduler.now in
-    let b = c.args.self.now in
-    let k = g.K.ValueKind.kind b.kind.now in
-    let own = c.in_ok-going.ensures in
-    let no = c.in_err-going-2.ensures in
-    let out = ap not (sym (c.any_out.ensures (task_at (tasks_of b.tasks)))) ∙ sym no.granted in
-    let o = own_refusal_is k (work_off (going_of c.args.going) (λ i. g.S.Scheduler.choice s)) (bench_of b) (some Unsettled) (sym c.admits.ensures ∙ sym own.granted) (unless_false _ Unsettled out) in
-    subst (λ r. WorksAll k g.S.Scheduler.choice g.S.Scheduler.next c.args.going s b r s b) (sym (handed_on c.from_residual-in_err-going-2.result c.from_residual-in_err-going-2.ensures.1 no.err))
-    (record {
-      answers = subst (λ (x : Option Refusal). ByRefusal k g.row.S.Denot g.S.Scheduler.choice g.S.Scheduler.next x (going_of c.args.going) s (bench_of b) (Answer.refused Unsettled) s (bench_of b)) (sym o) (refl, refl, refl);
-      back = own.ok;
-      fits = tt;
-      rests = tt;
-      agrees = tt;
-      leads_on = λ _ _ h. h;
-      kind = refl;
-    })
 
 module _ (g : given.Over) (c : In_ok-going-2 g) where
   -- the state is the run's, which goes on
