@@ -15,7 +15,9 @@ mod offer;
 mod queue;
 mod queues;
 mod state;
+mod told;
 mod turns;
 
 pub use line::Line;
 pub use state::{Deed, Event, State, decide};
+pub use told::Declares;

@@ -63,8 +63,8 @@ pub(crate) fn refresh(queues: &Vec<Queue>, clear: &mut [bool; 256])
     ensures { (n : ℕ) → n < 256 → slice_index_or clear.new n false ≡ clear_in (queues_of queues.now.items) n }
 {
     *clear = [true; 256];
-    for o in 0..queues.len() {
-        pass(queues[o].entries.as_slice(), clear);
+    for queue in queues {
+        pass(queue.entries.as_slice(), clear);
     }
 }
 
@@ -74,8 +74,8 @@ pub(crate) fn enter_all(queues: &mut Vec<Queue>, maker: u8, child: u8, ds: &[Dec
     ensures items { (o : ℕ) → slice_index_or (queues_of queues.new.items) o [] ≡ entered maker child (slice_index_or ds.now o nothing) (slice_index_or (queues_of queues.old.items) o []) }
     ensures len { vec_len queues.new ≡ vec_len queues.old }
 {
-    for o in 0..queues.len() {
-        queues[o].enter(maker, child, ds[o]);
+    for (o, queue) in queues.iter_mut().enumerate() {
+        queue.enter(maker, child, ds[o]);
     }
 }
 
@@ -84,8 +84,8 @@ pub(crate) fn redeclare_all(queues: &mut Vec<Queue>, n: u8, ds: &[Declared])
     ensures items { (o : ℕ) → slice_index_or (queues_of queues.new.items) o [] ≡ redeclared n (slice_index_or ds.now o nothing) (slice_index_or (queues_of queues.old.items) o []) }
     ensures len { vec_len queues.new ≡ vec_len queues.old }
 {
-    for o in 0..queues.len() {
-        queues[o].redeclare(n, ds[o]);
+    for (o, queue) in queues.iter_mut().enumerate() {
+        queue.redeclare(n, ds[o]);
     }
 }
 
@@ -93,7 +93,7 @@ pub(crate) fn leave_all(queues: &mut Vec<Queue>, n: u8)
     ensures items { (o : ℕ) → slice_index_or (queues_of queues.new.items) o [] ≡ left n (slice_index_or (queues_of queues.old.items) o []) }
     ensures len { vec_len queues.new ≡ vec_len queues.old }
 {
-    for o in 0..queues.len() {
-        queues[o].leave(n);
+    for queue in queues.iter_mut() {
+        queue.leave(n);
     }
 }

@@ -17,11 +17,8 @@ use Rattle.runs.proofs.Apart.{Bars, rd_wr, rd_cm, wr_rd, wr_wr, wr_cm, cm_rd, cm
 
 not_held : (l : Level) → held l ≡ false → l ≡ Absent
 not_held Absent e = refl
-not_held Deferred e = let z : ◌≡◌ {A = ℕ} 0 1 = cc in absurd (omega arith)
-not_held Immediate e = let z : ◌≡◌ {A = ℕ} 0 1 = cc in absurd (omega arith)
-
-absent_held : (l : Level) → l ≡ Absent → held l ≡ false
-absent_held l e = rw e
+not_held Deferred e = cc
+not_held Immediate e = cc
 
 -- One entry.
 
@@ -35,9 +32,9 @@ passes_bars : (d : Declared) {a b : Access} → passes a d ≡ true → Bars a b
 unfolding passes
 passes_bars d e rd_wr = (or_parts _ _ (not-true _ e)).0
 passes_bars d e rd_cm = (or_parts _ _ (not-true _ e)).1
-passes_bars d e wr_rd = let z : ◌≡◌ {A = ℕ} 0 1 = cc in absurd (omega arith)
-passes_bars d e wr_wr = let z : ◌≡◌ {A = ℕ} 0 1 = cc in absurd (omega arith)
-passes_bars d e wr_cm = let z : ◌≡◌ {A = ℕ} 0 1 = cc in absurd (omega arith)
+passes_bars d e wr_rd = cc
+passes_bars d e wr_wr = cc
+passes_bars d e wr_cm = cc
 passes_bars d e cm_rd = (or_parts _ _ (not-true _ e)).0
 passes_bars d e cm_wr = (or_parts _ _ (not-true _ e)).1
 
@@ -50,16 +47,16 @@ lets_from d a h b x = ⊎_elim (λ e. not_held _ (passes_bars d (h e) x)) (λ e.
 
 lets_passes : (d : Declared) (a : Access) → Lets a d → declares d ≡ true → passes a d ≡ true
 unfolding passes declares
-lets_passes d Rd h e = not_from_false _ (or_from _ _ (absent_held _ (h Wr rd_wr)) (absent_held _ (h Cm rd_cm)))
-lets_passes d Wr h e = absurd (both_ways _ (or_from _ _ (absent_held _ (h Rd wr_rd)) (or_from _ _ (absent_held _ (h Wr wr_wr)) (absent_held _ (h Cm wr_cm)))) e)
-lets_passes d Cm h e = not_from_false _ (or_from _ _ (absent_held _ (h Rd cm_rd)) (absent_held _ (h Wr cm_wr)))
+lets_passes d Rd h e = not_from_false _ (or_from _ _ (ap held (h Wr rd_wr)) (ap held (h Cm rd_cm)))
+lets_passes d Wr h e = absurd (both_ways _ (or_from _ _ (ap held (h Rd wr_rd)) (or_from _ _ (ap held (h Wr wr_wr)) (ap held (h Cm wr_cm)))) e)
+lets_passes d Cm h e = not_from_false _ (or_from _ _ (ap held (h Rd cm_rd)) (ap held (h Wr cm_wr)))
 
 -- One more task at the front of the line.
 
 entry_clear : (x : Bool) (a : Access) (n : ℕ) (e : Entry) (q : List Entry) → (e.number ≡ n → ⊥) → clear a (earlier n (cond x (e ∷ q) q)) ≡ true → (x ≡ true → passes a e.declared ≡ true) × (clear a (earlier n q) ≡ true)
 unfolding clear earlier
 entry_clear true a n e q f h = let g = and_parts (passes a e.declared) (clear a (earlier n q)) (rw (ne_eqb e.number n f) at h) in ((λ y. g.0), g.1)
-entry_clear false a n e q f h = ((λ y. let z : ◌≡◌ {A = ℕ} 0 1 = cc in absurd (omega arith)), h)
+entry_clear false a n e q f h = ((λ y. cc), h)
 
 clear_entry : (x : Bool) (a : Access) (n : ℕ) (e : Entry) (q : List Entry) → (x ≡ true → passes a e.declared ≡ true) → clear a (earlier n q) ≡ true → clear a (earlier n (cond x (e ∷ q) q)) ≡ true
 unfolding clear earlier
@@ -73,7 +70,7 @@ clear_entry false a n e q p h = h
 clear_own : (x : Bool) (a : Access) (n : ℕ) (e : Entry) (q : List Entry) → x ≡ true → e.number ≡ n → clear a (earlier n (cond x (e ∷ q) q)) ≡ true
 unfolding clear earlier
 clear_own true a n e q h p = rw (eq-eqb e.number n p)
-clear_own false a n e q h p = let z : ◌≡◌ {A = ℕ} 0 1 = cc in absurd (omega arith)
+clear_own false a n e q h p = cc
 
 -- The tasks before a clear one are apart from it, and the other way round.
 
@@ -119,13 +116,9 @@ immediate_within : (t : Task) (o : ℕ) (a : Access) → at t o a ≡ Immediate 
 immediate_within t o a e = ⊎_elim (λ l. l) (λ g. absurd (past a (ap (λ d. state d a) (sym (get_or_past t.declared o nothing g)) ∙ e))) (cases_lt o (length t.declared))
   where
     past : (a : Access) → state nothing a ≡ Immediate → ⊥
-    past Rd e = let z : ◌≡◌ {A = ℕ} 0 1 = cc in omega arith
-    past Wr e = let z : ◌≡◌ {A = ℕ} 0 1 = cc in omega arith
-    past Cm e = let z : ◌≡◌ {A = ℕ} 0 1 = cc in omega arith
-
-for_clear : (line : List Member) (s : Member) (o : ℕ) (a : Access) → clear_for line s o a ≡ true → at s.task o a ≡ Immediate → clear a (earlier s.number (queue o line)) ≡ true
-unfolding clear_for on
-for_clear line s o a h i = rw i at h
+    past Rd e = cc
+    past Wr e = cc
+    past Cm e = cc
 
 clear_for_true : (line : List Member) (s : Member) (o : ℕ) (a : Access) → (at s.task o a ≡ Immediate → clear a (earlier s.number (queue o line)) ≡ true) → clear_for line s o a ≡ true
 unfolding clear_for on
@@ -137,10 +130,10 @@ clear_for_true line s o a h = go (at s.task o a) h
     go Immediate g = g refl
 
 pub ready_clear : (line : List Member) (s : Member) → ready line s ≡ true → Clear line s
-unfolding ready
+unfolding ready clear_for on
 ready_clear line s h o a i =
     let p = each_below _ _ (and_parts _ _ h).1 o (immediate_within s.task o a i) in
-    for_clear line s o a (pick a p) i
+    rw i at (pick a p)
   where
     pick : (a : Access) → (clear_for line s o Rd && (clear_for line s o Wr && clear_for line s o Cm)) ≡ true → clear_for line s o a ≡ true
     pick Rd p = (and_parts (clear_for line s o Rd) (clear_for line s o Wr && clear_for line s o Cm) p).0

@@ -1,14 +1,15 @@
 -- One step of serial working over a pile.
-use Rattle.std.proofs.Common.{◌≡◌, ℕ, suc, ◌+◌, ◌<◌, ◌≤◌, List, [], ◌∷◌, ◌++◌, length, sym, refl, ap, ◌∙◌, subst, arith}
+use Rattle.std.proofs.Common.{◌≡◌, ℕ, suc, ◌+◌, ◌<◌, ◌≤◌, List, [], ◌∷◌, ◌++◌, length, sym, refl, ap, ◌∙◌, subst, arith, Ok, Err}
 use Rattle.kinds.specs.Kinds.{Kind}
 use Rattle.cards.specs.Bounds.{step_bound}
 use Rattle.working.specs.Tasks as Tasks
-use Rattle.working.specs.Requests.{FaultKind, Next, leaves, goes, makes, request, stored, stepped, reply}
+use Rattle.working.specs.Requests.{Next, leaves, goes, makes, request, stored, stepped, reply}
 use Rattle.working.specs.Serial.{Result, result, words, fault, segment, made_by, Serial, done, stop, more}
+use Rattle.working.specs.declared.fault.Fault.{Fault}
 use Rattle.working.specs.declared.record.Record.{Record}
 use Rattle.working.specs.declared.work.Work.{Work}
 use Rattle.working.specs.declared.work.Fresh.{Fresh}
-use Rattle.working.specs.declared.step.Stepped.TheVariants.{Fault, Went, Amended, Finished, Made}
+use Rattle.working.specs.declared.step.Stepped.TheVariants.{Went, Amended, Finished, Made}
 use Rattle.working.specs.declared.pile.Task.{Task}
 use Rattle.working.specs.Works.{ranks_of, work_of}
 use Rattle.working.specs.Steps.{task_of, fresh_task, Answered}
@@ -63,31 +64,31 @@ advance k m m' t ts line' x e f h =
     }
 
 module _ (k : Kind) (m m' : List ℕ) (r r' : Record) (w w' : Work) (ts : List Task) where
-  pub went : Answered k r w m Went r' w' m' → Advances k m (line_of r w ts) m' (line_of r' w' ts) (goes (task_of r' w'))
+  pub went : Answered k r w m (Ok Went) r' w' m' → Advances k m (line_of r w ts) m' (line_of r' w' ts) (goes (task_of r' w'))
   unfolding Answered segment
   went a = advance k m m' (task_of r w) (piled ts []) (line_of r' w' ts) (goes (task_of r' w')) a.0 a.1 refl
 
-  pub amended : Answered k r w m Amended r' w' m' → Advances k m (line_of r w ts) m' (line_of r' w' ts) (goes (task_of r' w'))
+  pub amended : Answered k r w m (Ok Amended) r' w' m' → Advances k m (line_of r w ts) m' (line_of r' w' ts) (goes (task_of r' w'))
   unfolding Answered
   amended a = went a
 
   -- the one below goes on
-  pub finished : (us : List Task) (t : Task) → ts ≡ us ++ t ∷ [] → Answered k r w m Finished r' w' m' → Advances k m (line_of r w ts) m' (line_of t.own t.work us) leaves
+  pub finished : (us : List Task) (t : Task) → ts ≡ us ++ t ∷ [] → Answered k r w m (Ok Finished) r' w' m' → Advances k m (line_of r w ts) m' (line_of t.own t.work us) leaves
   unfolding Answered segment
   finished us t e a = advance k m m' (task_of r w) (piled ts []) (line_of t.own t.work us) leaves a.0 a.1 (sym (ap (λ (l : List Task). piled l []) e ∙ piled_last us t []))
 
-  pub all_finished : ts ≡ [] → (n c : ℕ) → Answered k r w m Finished r' w' m' → Serial k m (line_of r w ts) n c (result (words m') (n + 1) c)
+  pub all_finished : ts ≡ [] → (n c : ℕ) → Answered k r w m (Ok Finished) r' w' m' → Serial k m (line_of r w ts) n c (result (words m') (n + 1) c)
   unfolding Answered segment made_by
   all_finished e n c a =
       let h = advance k m m' (task_of r w) (piled ts []) [] leaves a.0 a.1 (sym (piled_none ts e)) in
       h.carries n c (result (words m') (n + 1) c) (subst (λ (y : ℕ). Serial k m' [] (n + 1) y (result (words m') (n + 1) c)) (omega arith) done)
 
-  pub faults : (f : FaultKind) (l n c : ℕ) → Answered k r w m (Fault f l) r' w' m' → Serial k m (line_of r w ts) n c (result (fault f l (ranks_of w'.place)) n c)
+  pub faults : (f : Fault) (n c : ℕ) → Answered k r w m (Err f) r' w' m' → Serial k m (line_of r w ts) n c (result (fault f.kind f.line (ranks_of w'.place)) n c)
   unfolding Answered
-  faults f l n c a = subst (λ (p : List ℕ). Serial k m (line_of r w ts) n c (result (fault f l p) n c)) (sym (ap (λ (t : Tasks.Task). t.place) a.1)) (stop a.0)
+  faults f n c a = subst (λ (p : List ℕ). Serial k m (line_of r w ts) n c (result (fault f.kind f.line p) n c)) (sym (ap (λ (t : Tasks.Task). t.place) a.1)) (stop a.0)
 
   -- the child u begins with work v, and its maker waits on top of the pile
-  pub made : (u : Record) (f : Fresh) (v : Work) (us : List Task) (t : Task) → Answered k r w m (Made u f) r' w' m' → task_of u v ≡ fresh_task u f → us ≡ ts ++ t ∷ [] → model_of t ≡ task_of r' w' → Advances k m (line_of r w ts) m' (line_of u v us) (makes (fresh_task u f) (task_of r' w'))
+  pub made : (u : Record) (f : Fresh) (v : Work) (us : List Task) (t : Task) → Answered k r w m (Ok (Made u f)) r' w' m' → task_of u v ≡ fresh_task u f → us ≡ ts ++ t ∷ [] → model_of t ≡ task_of r' w' → Advances k m (line_of r w ts) m' (line_of u v us) (makes (fresh_task u f) (task_of r' w'))
   unfolding Answered segment
   made u f v us t a h e g =
       advance k m m' (task_of r w) (piled ts []) (line_of u v us) (makes (fresh_task u f) (task_of r' w')) a.0 a.1

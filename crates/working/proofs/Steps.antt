@@ -1,5 +1,5 @@
 -- A step at the head of the work.
-use Rattle.std.proofs.Common.{◌≡◌, ℕ, zero, suc, ◌+◌, ◌≤◌, max, List, [], ◌∷◌, ◌++◌, sym, refl, ap, ◌∙◌, arith, Bor}
+use Rattle.std.proofs.Common.{◌≡◌, ℕ, zero, suc, ◌+◌, ◌≤◌, max, List, [], ◌∷◌, ◌++◌, sym, refl, ap, ◌∙◌, arith, Bor, Ok, Err}
 use Rattle.kinds.specs.Kinds.{Kind}
 use Rattle.cards.specs.Code.{Block, end, next, Statement, ◌before◌}
 use Rattle.cards.specs.Bounds.{task_bound, statement_tasks, depth, statement_depth}
@@ -7,12 +7,13 @@ use Rattle.cards.specs.declared.tree.Block as tree
 use Rattle.cards.specs.declared.tree.Step.{Step}
 use Rattle.cards.specs.Trees.{block_of, statement_of}
 use Rattle.working.specs.Tasks.{Task}
-use Rattle.working.specs.Requests.{FaultKind, quiet, leaves, goes, makes, changed, continued, statement_request, block_request, request, stored, stepped, reply}
+use Rattle.working.specs.Requests.{quiet, leaves, goes, makes, changed, continued, statement_request, block_request, request, stored, stepped, reply}
+use Rattle.working.specs.declared.fault.Fault.{Fault}
 use Rattle.working.specs.declared.record.Record.{Record}
 use Rattle.working.specs.declared.work.Work.{Work}
 use Rattle.working.specs.declared.work.Fresh.{Fresh}
-use Rattle.working.specs.declared.effect.Effect.TheVariants.{Faults, Passes, Amends, Enters, Repeats, Makes}
-use Rattle.working.specs.declared.step.Stepped.TheVariants.{Fault, Went, Amended, Finished, Made}
+use Rattle.working.specs.declared.effect.Effect.TheVariants.{Passes, Amends, Enters, Repeats, Makes}
+use Rattle.working.specs.declared.step.Stepped.TheVariants.{Went, Amended, Finished, Made}
 use Rattle.working.specs.Works.{ranks_of, work_of, below, over, over_both, step_of, Fits, Few, after_rounds}
 use Rattle.working.specs.Records.{task_with}
 use Rattle.working.specs.Effects.{Did, Does}
@@ -75,14 +76,14 @@ repeat_request k t l zero x b = refl
 repeat_request k t l (suc n) x b = refl
 
 module _ (k : Kind) (r r' : Record) (w v : Work) (m m' : List ℕ) where
-  pub answers_finished : work_of w ≡ end → work_of v ≡ end → v.place ≡ w.place → v.children ≡ w.children → r' ≡ r → m' ≡ m → Answered k r w m Finished r' v m'
+  pub answers_finished : work_of w ≡ end → work_of v ≡ end → v.place ≡ w.place → v.children ≡ w.children → r' ≡ r → m' ≡ m → Answered k r w m (Ok Finished) r' v m'
   unfolding Answered reply stored
   answers_finished e f p c a h =
       let same = ap (λ (y : Record). task_of y v) a ∙ sym (moved r (ranks_of w.place) w.children (work_of w) v (ap ranks_of p) c (f ∙ sym e)) in
       (ap (reply m) (request_end k (task_of r w) e), h ∙ ap (stored k m) (sym (request_end k (task_of r w) e)), same)
 
   -- v is w after a round
-  pub answers_rounds : (l n : ℕ) (x b : Block) → work_of w ≡ next l (Statement.repeat n x) b → work_of v ≡ after_rounds l n x b → v.place ≡ w.place → v.children ≡ w.children → r' ≡ r → m' ≡ m → Answered k r w m Went r' v m'
+  pub answers_rounds : (l n : ℕ) (x b : Block) → work_of w ≡ next l (Statement.repeat n x) b → work_of v ≡ after_rounds l n x b → v.place ≡ w.place → v.children ≡ w.children → r' ≡ r → m' ≡ m → Answered k r w m (Ok Went) r' v m'
   unfolding Answered reply stored continued changed
   answers_rounds l n x b e f p c a h =
       let q : request k (task_of r w) ≡ quiet (goes (task_of r' v)) =
@@ -96,33 +97,33 @@ asked k r w s b at = request_step k (task_of r w) s.line (statement_of s.stateme
 
 -- w has the step of s to do, and then b; v is w moved on
 module _ {k : Kind} {r r' : Record} {m m' : List ℕ} (w v : Work) (s : Step) (b : Block) (at : work_of w ≡ step_of s b) where
-  pub answers_fault : (f : FaultKind) (n : ℕ) → Does k r m s.line (statement_of s.statement) (Faults f n) r' m' → work_of v ≡ work_of w → v.place ≡ w.place → v.children ≡ w.children → Answered k r w m (Fault f n) r' v m'
+  pub answers_fault : (f : Fault) → Does k r m s.line (statement_of s.statement) (Err f) r' m' → work_of v ≡ work_of w → v.place ≡ w.place → v.children ≡ w.children → Answered k r w m (Err f) r' v m'
   unfolding Answered Did reply
-  answers_fault f n d e p c =
+  answers_fault f d e p c =
       let h = d.did (ranks_of w.place) w.children (work_of w) b in
       (ap (reply m) (asked k r w s b at ∙ h.0), sym (moved r' (ranks_of w.place) w.children (work_of w) v (ap ranks_of p) c e) ∙ ap (λ (x : Record). task_of x w) h.1, h.2)
 
-  pub answers_passes : Does k r m s.line (statement_of s.statement) Passes r' m' → work_of v ≡ b → v.place ≡ w.place → v.children ≡ w.children → Answered k r w m Went r' v m'
+  pub answers_passes : Does k r m s.line (statement_of s.statement) (Ok Passes) r' m' → work_of v ≡ b → v.place ≡ w.place → v.children ≡ w.children → Answered k r w m (Ok Went) r' v m'
   unfolding Answered Did
   answers_passes d e p c =
       let h = d.did (ranks_of w.place) w.children (work_of w) b in
       (ap (reply m) (asked k r w s b at) ∙ h.0 ∙ ap (λ (t : Task). stepped (goes t)) (moved r' (ranks_of w.place) w.children b v (ap ranks_of p) c e), h.1 ∙ ap (stored k m) (sym (asked k r w s b at)))
 
-  pub answers_amends : Does k r m s.line (statement_of s.statement) Amends r' m' → work_of v ≡ b → v.place ≡ w.place → v.children ≡ w.children → Answered k r w m Amended r' v m'
+  pub answers_amends : Does k r m s.line (statement_of s.statement) (Ok Amends) r' m' → work_of v ≡ b → v.place ≡ w.place → v.children ≡ w.children → Answered k r w m (Ok Amended) r' v m'
   unfolding Answered Did
   answers_amends d e p c = answers_passes (record { did = d.did }) e p c
 
-  pub answers_enters : (x : Bor tree.Block) → Does k r m s.line (statement_of s.statement) (Enters x) r' m' → work_of v ≡ block_of x.now before b → v.place ≡ w.place → v.children ≡ w.children → Answered k r w m Went r' v m'
+  pub answers_enters : (x : Bor tree.Block) → Does k r m s.line (statement_of s.statement) (Ok (Enters x)) r' m' → work_of v ≡ block_of x.now before b → v.place ≡ w.place → v.children ≡ w.children → Answered k r w m (Ok Went) r' v m'
   unfolding Answered Did
   answers_enters x d e p c =
       let h = d.did (ranks_of w.place) w.children (work_of w) b in
       (ap (reply m) (asked k r w s b at) ∙ h.0 ∙ ap (λ (t : Task). stepped (goes t)) (moved r' (ranks_of w.place) w.children (block_of x.now before b) v (ap ranks_of p) c e), h.1 ∙ ap (stored k m) (sym (asked k r w s b at)))
 
-  pub repeats_is : (n : ℕ) (x : Bor tree.Block) → Does k r m s.line (statement_of s.statement) (Repeats n x) r' m' → (statement_of s.statement ≡ Statement.repeat n (block_of x.now)) × (r' ≡ r) × (m' ≡ m)
+  pub repeats_is : (n : ℕ) (x : Bor tree.Block) → Does k r m s.line (statement_of s.statement) (Ok (Repeats n x)) r' m' → (statement_of s.statement ≡ Statement.repeat n (block_of x.now)) × (r' ≡ r) × (m' ≡ m)
   unfolding Did
   repeats_is n x d = d.did (ranks_of w.place) w.children (work_of w) b
 
-  pub answers_makes : (u : Record) (x : Bor tree.Block) (z : Fresh) → Does k r m s.line (statement_of s.statement) (Makes u x) r' m' → work_of v ≡ b → v.place ≡ w.place → v.children ≡ suc w.children → block_of z.body.now ≡ block_of x.now → ranks_of z.place ≡ ranks_of w.place ++ suc w.children ∷ [] → Answered k r w m (Made u z) r' v m'
+  pub answers_makes : (u : Record) (x : Bor tree.Block) (z : Fresh) → Does k r m s.line (statement_of s.statement) (Ok (Makes u x)) r' m' → work_of v ≡ b → v.place ≡ w.place → v.children ≡ suc w.children → block_of z.body.now ≡ block_of x.now → ranks_of z.place ≡ ranks_of w.place ++ suc w.children ∷ [] → Answered k r w m (Ok (Made u z)) r' v m'
   unfolding Answered Did
   answers_makes u x z d e p c f g =
       let h = d.did (ranks_of w.place) w.children (work_of w) b in (

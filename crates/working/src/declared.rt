@@ -7,3 +7,17 @@ pub struct Declared {
     pub writes: Level,
     pub commutes: Level,
 }
+
+impl Declared {
+    pub const NOTHING: Declared = Declared {
+        reads: Level::Absent,
+        writes: Level::Absent,
+        commutes: Level::Absent,
+    };
+
+    pub const EVERYTHING: Declared = Declared {
+        reads: Level::Deferred,
+        writes: Level::Deferred,
+        commutes: Level::Deferred,
+    };
+}

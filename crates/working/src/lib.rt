@@ -20,9 +20,9 @@ mod step;
 mod work;
 
 pub use declared::Declared;
-pub use fault::FaultKind;
+pub use fault::{Fault, FaultKind, TaskFault};
 pub use place::Place;
 pub use record::Record;
-pub use serial::{Outcome, Worked, starting_words, work_serially};
+pub use serial::{Worked, starting_words, work_serially};
 pub use step::Stepped;
 pub use work::{Frames, Fresh, Work};

@@ -28,6 +28,13 @@ pub(crate) enum Head<'c> {
 }
 
 impl Place {
+    // The ranks of a task's makers and its own.
+    pub fn ranks(&self) -> &[u8]
+        ensures { result.now ≡ ranks_of self.now }
+    {
+        &self.ranks[..self.depth as usize]
+    }
+
     // The place of the child of this rank.
     fn child(self, rank: u8) -> Place
         requires { self.depth < 8 }

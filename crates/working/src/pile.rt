@@ -6,8 +6,7 @@ ghost use Rattle.working.specs.Works.{work_of};
 ghost use Rattle.working.specs.Steps.{task_of};
 ghost use Rattle.working.specs.Piles.{ran_of};
 
-use crate::fault::FaultKind;
-use crate::place::Place;
+use crate::fault::TaskFault;
 use crate::record::Record;
 use crate::step::Stepped;
 use crate::work::{Frames, Work};
@@ -22,17 +21,10 @@ pub(crate) struct Task<'c> {
     pub work: Work<'c>,
 }
 
-// All tasks are finished, or one faults.
-#[derive(Clone, Copy)]
-pub(crate) enum Stop {
-    Done,
-    Fault(FaultKind, u32, Place),
-}
-
-// Where working stops, the steps made and the tasks made.
+// Where working stops: all tasks are finished, or one faults. With the steps made and the tasks made.
 #[derive(Clone, Copy)]
 pub(crate) struct Ran {
-    pub stop: Stop,
+    pub stop: Result<(), TaskFault>,
     pub steps: u32,
     pub made: u32,
 }
@@ -54,22 +46,24 @@ pub(crate) fn work_off<'c, K: ValueKind>(
     let mut steps = 0;
     let mut made = 1;
     loop {
-        match own.step(kind, &mut work, store) {
-            Stepped::Fault(fault, line) => {
+        let stepped = match own.step(kind, &mut work, store) {
+            Ok(stepped) => stepped,
+            Err(fault) => {
                 let place = work.place();
                 return Ok(Ran {
-                    stop: Stop::Fault(fault, line, place),
+                    stop: Err(TaskFault { fault, place }),
                     steps,
                     made,
                 });
             }
-            Stepped::Went => steps += 1,
-            Stepped::Amended => steps += 1,
+        };
+        steps += 1;
+        match stepped {
+            Stepped::Went | Stepped::Amended => {}
             Stepped::Finished => {
-                steps += 1;
                 let Some(task) = pile.pop() else {
                     return Ok(Ran {
-                        stop: Stop::Done,
+                        stop: Ok(()),
                         steps,
                         made,
                     });
@@ -78,7 +72,6 @@ pub(crate) fn work_off<'c, K: ValueKind>(
                 work = task.work;
             }
             Stepped::Made(child, fresh) => {
-                steps += 1;
                 made += 1;
                 let frames = Frames::new(heap)?;
                 let maker = mem::replace(&mut work, Work::begin(fresh, frames));

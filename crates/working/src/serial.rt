@@ -6,39 +6,22 @@ ghost use Rattle.working.specs.Records.{MainRecord};
 ghost use Rattle.working.specs.Results.{WorkedSerially};
 
 use crate::declared::Declared;
-use crate::fault::FaultKind;
-use crate::pile::{Stop, Task, work_off};
-use crate::place::Place;
+use crate::fault::TaskFault;
+use crate::pile::{Task, work_off};
 use crate::record::Record;
 use crate::work::{Frames, Fresh, Work};
-use cards::{Card, Level};
+use cards::Card;
 use kinds::ValueKind;
 use std::alloc::{AllocError, Global};
 
-// The words of all objects, or the first fault.
-#[derive(Drop)]
-pub enum Outcome {
-    Words(Vec<u32>),
-    Fault {
-        kind: FaultKind,
-        line: u32,
-        place: Place,
-    },
-}
-
-// What a card comes to, with the steps made and the tasks made, main among them.
+// What a card comes to: the words of all objects, or the first fault. With the steps made and the tasks made, main
+// among them.
 #[derive(Drop)]
 pub struct Worked {
-    pub outcome: Outcome,
+    pub outcome: Result<Vec<u32>, TaskFault>,
     pub steps: u32,
     pub made: u32,
 }
-
-const EVERYTHING: Declared = Declared {
-    reads: Level::Deferred,
-    writes: Level::Deferred,
-    commutes: Level::Deferred,
-};
 
 impl Record {
     // Main's record: literal 0 in each word, object 0 in each pointer, everything deferred.
@@ -50,7 +33,7 @@ impl Record {
         Record {
             words: [zero; 4],
             pointers: [0; 4],
-            declared: [EVERYTHING; 16],
+            declared: [Declared::EVERYTHING; 16],
             objects,
         }
     }
@@ -85,8 +68,8 @@ pub fn work_serially<K: ValueKind>(
     let work = Work::begin(Fresh::main(card), Frames::new(heap)?);
     let ran = work_off(heap, kind, Task { own, work }, &mut store)?;
     let outcome = match ran.stop {
-        Stop::Done => Outcome::Words(store),
-        Stop::Fault(kind, line, place) => Outcome::Fault { kind, line, place },
+        Ok(()) => Ok(store),
+        Err(fault) => Err(fault),
     };
     Ok(Worked {
         outcome,

@@ -4,16 +4,15 @@ ghost use Rattle.working.specs.Steps.{Answered, ChildSized, Keeps};
 ghost use Rattle.working.specs.Records.{declared_of};
 
 use crate::effect::Effect;
-use crate::fault::FaultKind;
+use crate::fault::Fault;
 use crate::moves::Head;
 use crate::record::Record;
 use crate::work::{Fresh, Work};
 use kinds::ValueKind;
 
-// A fault and its line; or the task went on, with other declarations or not, is finished, or made a child.
+// The task went on, with other declarations or not, is finished, or made a child.
 #[derive(Clone, Copy)]
 pub enum Stepped<'c> {
-    Fault(FaultKind, u32),
     Went,
     Amended,
     Finished,
@@ -27,7 +26,7 @@ impl Record {
         kind: &K,
         work: &mut Work<'c>,
         store: &mut [u32],
-    ) -> Stepped<'c>
+    ) -> Result<Stepped<'c>, Fault>
         requires { self.old.objects ≤ length store.old }
         ensures answer { Answered (K.ValueKind.kind kind.now) self.old work.old store.old result self.new work.new store.new }
         ensures objects { self.new.objects ≡ self.old.objects }
@@ -35,7 +34,7 @@ impl Record {
         ensures sized { ChildSized self.old.objects result }
     {
         match work.head() {
-            Head::Nothing => Stepped::Finished,
+            Head::Nothing => Ok(Stepped::Finished),
             Head::Round {
                 line,
                 left,
@@ -43,31 +42,33 @@ impl Record {
                 rest,
             } => {
                 work.round(line, left, body, rest);
-                Stepped::Went
+                Ok(Stepped::Went)
             }
-            Head::Next { step } => match self.act(kind, store, step) {
-                Effect::Faults(fault, line) => Stepped::Fault(fault, line),
-                Effect::Passes => {
-                    work.pass(&step.rest);
-                    Stepped::Went
+            Head::Next { step } => {
+                let effect = self.act(kind, store, step)?;
+                match effect {
+                    Effect::Passes => {
+                        work.pass(&step.rest);
+                        Ok(Stepped::Went)
+                    }
+                    Effect::Amends => {
+                        work.pass(&step.rest);
+                        Ok(Stepped::Amended)
+                    }
+                    Effect::Enters(arm) => {
+                        work.enter(arm, &step.rest);
+                        Ok(Stepped::Went)
+                    }
+                    Effect::Repeats(count, body) => {
+                        work.round(step.line, count, body, &step.rest);
+                        Ok(Stepped::Went)
+                    }
+                    Effect::Makes(child, body) => {
+                        let fresh = work.spawn(body, &step.rest);
+                        Ok(Stepped::Made(child, fresh))
+                    }
                 }
-                Effect::Amends => {
-                    work.pass(&step.rest);
-                    Stepped::Amended
-                }
-                Effect::Enters(arm) => {
-                    work.enter(arm, &step.rest);
-                    Stepped::Went
-                }
-                Effect::Repeats(count, body) => {
-                    work.round(step.line, count, body, &step.rest);
-                    Stepped::Went
-                }
-                Effect::Makes(child, body) => {
-                    let fresh = work.spawn(body, &step.rest);
-                    Stepped::Made(child, fresh)
-                }
-            },
+            }
         }
     }
 }

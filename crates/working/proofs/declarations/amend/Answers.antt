@@ -2,20 +2,20 @@ use Rattle.std.proofs.Common.{sym, refl, ap, ◌∙◌, drop_of_length-le}
 use Rattle.cards.specs.Sections.{no_declaration}
 use Rattle.working.specs.Tasks.{held}
 use Rattle.working.specs.Requests.{amended}
-use Rattle.working.proofs.Sections.{amend_stops, amend_goes, held_unless, held_inside}
+use Rattle.working.proofs.Sections.{amend_stops, amend_goes, held_inside}
 use Rattle.working.proofs.declarations.amend.Goals as goal
 
-pub returns-in-Absent : goal.returns-in-Absent
-returns-in-Absent c =
-    sym c.loop-x.invariant ∙ amend_stops c.args.pointers.now c.args.lines.now c.loop-x.x-index _ no_declaration c.loop-x-test.true refl c.loop-x.ds (ap held (sym c.level.ensures ∙ c.in-Absent.is))
+pub returns-then-not-is_held : goal.returns-then-not-is_held
+returns-then-not-is_held c =
+    sym c.loop-x.invariant ∙ amend_stops c.args.pointers.now c.args.lines.now c.loop-x.x-index _ no_declaration c.loop-x-test.true refl c.loop-x.ds (sym (c.if-not-is_held.ensures ∙ ap held c.level.ensures))
 
 pub assign-requires : goal.assign-requires
-assign-requires c = held_inside c.loop-x.ds _ _ (held_unless _ (λ e. c.in_default.not-Absent (c.level.ensures ∙ e)))
+assign-requires c = held_inside c.loop-x.ds _ _ (sym (c.if-not-is_held.ensures ∙ ap held c.level.ensures))
 
 pub loop-x-preserved : goal.loop-x-preserved
 loop-x-preserved c =
     rw c.assign.ensures
-    (amend_goes c.args.pointers.now c.args.lines.now c.loop-x.x-index _ no_declaration c.loop-x-test.true refl c.loop-x.ds (held_unless _ (λ e. c.in_default.not-Absent (c.level.ensures ∙ e))) ∙ c.loop-x.invariant)
+    (amend_goes c.args.pointers.now c.args.lines.now c.loop-x.x-index _ no_declaration c.loop-x-test.true refl c.loop-x.ds (sym (c.if-not-is_held.ensures ∙ ap held c.level.ensures)) ∙ c.loop-x.invariant)
 
 pub returns : goal.returns
 returns c = sym c.loop-x.invariant ∙ ap (amended c.args.pointers.now c.loop-x.ds) (drop_of_length-le c.args.lines.now c.loop-x-test.false)

@@ -2,20 +2,20 @@ use Rattle.std.proofs.Common.{sym, refl, ap, ◌∙◌, arith, drop_of_length-le
 use Rattle.cards.specs.Sections.{no_declaration}
 use Rattle.working.specs.Tasks.{held}
 use Rattle.working.specs.Requests.{endowed}
-use Rattle.working.proofs.Sections.{endow_stops, endow_goes, held_unless, held_inside, endowed_none}
+use Rattle.working.proofs.Sections.{endow_stops, endow_goes, held_inside, endowed_none}
 use Rattle.working.proofs.declarations.endow.Goals as goal
 
-pub returns-in-Absent : goal.returns-in-Absent
-returns-in-Absent c =
-    sym c.loop-x.invariant ∙ endow_stops c.args.pointers.now c.args.lines.now c.loop-x.x-index _ no_declaration c.loop-x-test.true refl c.args.maker.now c.loop-x.ds (ap held (sym c.level.ensures ∙ c.in-Absent.is))
+pub returns-then-not-is_held : goal.returns-then-not-is_held
+returns-then-not-is_held c =
+    sym c.loop-x.invariant ∙ endow_stops c.args.pointers.now c.args.lines.now c.loop-x.x-index _ no_declaration c.loop-x-test.true refl c.args.maker.now c.loop-x.ds (sym (c.if-not-is_held.ensures ∙ ap held c.level.ensures))
 
 pub assign-requires : goal.assign-requires
-assign-requires c = let h = held_inside c.args.maker.now _ _ (held_unless _ (λ e. c.in_default.not-Absent (c.level.ensures ∙ e))) in omega (arith, h, c.requires.same, c.loop-x.auto.ds)
+assign-requires c = let h = held_inside c.args.maker.now _ _ (sym (c.if-not-is_held.ensures ∙ ap held c.level.ensures)) in omega (arith, h, c.requires.same, c.loop-x.auto.ds)
 
 pub loop-x-preserved : goal.loop-x-preserved
 loop-x-preserved c =
     rw c.assign.ensures
-    (endow_goes c.args.pointers.now c.args.lines.now c.loop-x.x-index _ no_declaration c.loop-x-test.true refl c.args.maker.now c.loop-x.ds (held_unless _ (λ e. c.in_default.not-Absent (c.level.ensures ∙ e))) ∙ c.loop-x.invariant)
+    (endow_goes c.args.pointers.now c.args.lines.now c.loop-x.x-index _ no_declaration c.loop-x-test.true refl c.args.maker.now c.loop-x.ds (sym (c.if-not-is_held.ensures ∙ ap held c.level.ensures)) ∙ c.loop-x.invariant)
 
 pub returns : goal.returns
 returns c = sym c.loop-x.invariant ∙ ap (endowed c.args.pointers.now c.args.maker.now c.loop-x.ds) (drop_of_length-le c.args.lines.now c.loop-x-test.false) ∙ endowed_none _ _ _

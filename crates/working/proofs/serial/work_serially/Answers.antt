@@ -1,4 +1,4 @@
-use Rattle.std.proofs.Common.{◌≡◌, ℕ, List, [], ◌∷◌, length, sym, ap, ◌∙◌, subst, arith, rules}
+use Rattle.std.proofs.Common.{◌≡◌, ℕ, List, [], ◌∷◌, length, sym, ap, ◌∙◌, subst, arith, rules, Result}
 use Rattle.std.proofs.lemmas.List.{length-map, take_at}
 use Rattle.kinds.specs.Kinds.{Kind}
 use Rattle.cards.specs.Code.{Card}
@@ -7,7 +7,7 @@ use Rattle.cards.specs.Cards.{card_of}
 use Rattle.working.specs.Tasks.{Task, starting_words}
 use Rattle.working.specs.Serial.{Outcome, words, result, Serial, Serially}
 use Rattle.working.specs.declared.serial.Worked.{Worked}
-use Rattle.working.specs.declared.pile.Stop.{Stop}
+use Rattle.working.specs.declared.fault.TaskFault.{TaskFault}
 use Rattle.working.specs.Works.{ranks_of}
 use Rattle.working.specs.Steps.{task_of}
 use Rattle.working.specs.Results.{outcome_of, result_of, WorkedSerially}
@@ -15,7 +15,7 @@ use Rattle.working.specs.Piles.{stop_of, ran_of}
 use Rattle.working.proofs.Serials.{serially_agrees, serially_bounded}
 use Rattle.working.proofs.Begins.{task_of_main}
 use Rattle.working.proofs.serial.work_serially.Goals as goal
-use Rattle.working.proofs.serial.work_serially.Goals.{in-Done, in-Fault}
+use Rattle.working.proofs.serial.work_serially.Goals.{in-Ok, in-Err}
 
 worked : (k : Kind) (c : Card) (w : Worked) → Serially k c (result_of w) → WorkedSerially k c w
 worked k c w s =
@@ -46,8 +46,8 @@ returns g c =
     let e : length last ≡ c.in_ok-store.store.len = search rules in
     let same : stop_of ran.stop last ≡ outcome_of c.match-ran.outcome =
     elim c.match-ran.branch [
-      | in-Done w ↦ ap (λ (s : Stop). stop_of s last) w.in-Done.is ∙ ap words (sym (take_at last _ c.in_ok-store.store.len e)) ∙ ap outcome_of (sym w.outcome-is)
-      | in-Fault w ↦ ap (λ (s : Stop). stop_of s last) w.in-Fault.is ∙ ap outcome_of (sym w.outcome-is)
+      | in-Ok w ↦ ap (λ (s : Result (Unit {0}) TaskFault). stop_of s last) w.in-Ok.is ∙ ap words (sym (take_at last _ c.in_ok-store.store.len e)) ∙ ap outcome_of (sym w.outcome-is)
+      | in-Err w ↦ ap (λ (s : Result (Unit {0}) TaskFault). stop_of s last) w.in-Err.is ∙ ap outcome_of (sym w.outcome-is)
     ] in
     let s = subst (λ (x : List ℕ). Serial k x (task_of c.main-own.result c.begin-work.result ∷ []) 0 1 (ran_of ran last)) m c.in_ok-ran.ensures in
     let r = subst (λ (x : Task). Serial k (starting_words k card) (x ∷ []) 0 1 (ran_of ran last)) t s in

@@ -1,13 +1,13 @@
-use Rattle.std.proofs.Common.{vec_items, arith}
-use Rattle.lines.proofs.Standing.{first_there, first_none}
+use Rattle.std.proofs.Common.{◌≡◌, ℕ, List, [], ◌∷◌, MatchOption, Option, vec_items, sym, ap, ◌∙◌, subst}
+use Rattle.std.specs.List.{slice_get}
+use Rattle.runs.specs.Lines.{Member, member}
+use Rattle.lines.specs.States.{status_of}
+use Rattle.lines.specs.Lines.{line_of, state_of}
+use Rattle.lines.proofs.Standing.{first_is}
 use Rattle.lines.proofs.line.Line.first.Goals as goal
 
-pub returns-then-len-gt0 : goal.returns-then-len-gt0
-returns-then-len-gt0 c = λ t.
+pub returns : goal.returns
+returns c = λ t.
     let s = c.args.self.now in
-    first_there s.states t (vec_items s.order) c.index.result.now (omega (arith, s.order.ok.0)) c.index.ensures
-
-pub returns-else-len-gt0 : goal.returns-else-len-gt0
-returns-else-len-gt0 c = λ t.
-    let s = c.args.self.now in
-    first_none s.states t (vec_items s.order) (omega (arith, s.order.ok.0))
+    subst (λ (o : Option ℕ). MatchOption o (line_of s t ≡ []) (λ n. (rest : List Member) × (line_of s t ≡ member n (status_of (state_of s n)) (t n) ∷ rest)))
+    (sym (c.copied.ensures ∙ c.first.ensures.value ∙ ap (λ (ns : List ℕ). slice_get ns 0) c.deref.ensures.value)) (first_is s.states t (vec_items s.order))

@@ -15,8 +15,8 @@ invariant_of-self c =
       wide = length_filled c.amend.new.ds w.declared w.objects k w.few w.wide;
     }
 
-pub returns-in-None : goal.returns-in-None
-returns-in-None c =
+pub returns : goal.returns
+returns c =
     let w = c.args.self.now in
     let k : length c.amend.new.ds ≡ w.objects = search rules in
-    (ap (λ (xs : List Declaration). amended w.pointers (declared_of w) xs) (sym c.deref.ensures.value) ∙ c.in-None.ensures ∙ ap accepted (sym (take_at c.amend.new.ds (drop w.objects w.declared) w.objects k)), refl, refl, refl)
+    (ap (λ (xs : List Declaration). amended w.pointers (declared_of w) xs) (sym c.deref.ensures.value) ∙ c.in_ok-amend.ensures ∙ ap accepted (sym (take_at c.amend.new.ds (drop w.objects w.declared) w.objects k)), refl, refl, refl)
