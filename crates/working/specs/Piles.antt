@@ -2,14 +2,11 @@
 use Rattle.std.specs.Prelude.{ℕ, List, [], ◌∷◌, Result, Ok, Err}
 use Rattle.working.specs.Tasks as Tasks
 use Rattle.working.specs.Serial as Serial
-use Rattle.working.specs.declared.pile.Task.{Task}
+use Rattle.working.specs.declared.task.Task.{Task}
 use Rattle.working.specs.declared.fault.TaskFault.{TaskFault}
 use Rattle.working.specs.declared.pile.Ran.{Ran}
 use Rattle.working.specs.Works.{ranks_of}
-use Rattle.working.specs.Steps.{task_of}
-
-abbrev pub model_of : Task → Tasks.Task
-model_of t = task_of t.own t.work
+use Rattle.working.specs.Steps.{model_of}
 
 -- the tasks of a pile and then those below; the last of a pile is on top
 unfoldable pub piled : List Task → List Tasks.Task → List Tasks.Task

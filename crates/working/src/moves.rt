@@ -76,7 +76,7 @@ impl<'c> Fresh<'c> {
 
 impl<'c> Work<'c> {
     // The work of a task that begins.
-    pub fn begin(fresh: Fresh<'c>, frames: Frames<'c>) -> Work<'c>
+    pub(crate) fn begin(fresh: Fresh<'c>, frames: Frames<'c>) -> Work<'c>
         ensures work { work_of result ≡ block_of fresh.entry.body.now }
         ensures place { result.place ≡ fresh.entry.place }
         ensures children { result.children ≡ 0 }

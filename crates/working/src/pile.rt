@@ -3,23 +3,16 @@ ghost use Rattle.std.specs.Prelude.{◌+◌, ◌≤◌, [], ◌∷◌, length, I
 ghost use Rattle.cards.specs.Bounds.{step_bound};
 ghost use Rattle.working.specs.Serial.{Serial};
 ghost use Rattle.working.specs.Works.{work_of};
-ghost use Rattle.working.specs.Steps.{task_of};
+ghost use Rattle.working.specs.Steps.{model_of};
 ghost use Rattle.working.specs.Piles.{ran_of};
 
 use crate::fault::TaskFault;
-use crate::record::Record;
 use crate::step::Stepped;
-use crate::work::{Frames, Work};
+use crate::task::Task;
+use crate::work::Frames;
 use kinds::ValueKind;
 use std::alloc::{AllocError, Global};
 use std::mem;
-
-// A task that waits for its child.
-#[derive(Drop)]
-pub(crate) struct Task<'c> {
-    pub own: Record,
-    pub work: Work<'c>,
-}
 
 // Where working stops: all tasks are finished, or one faults. With the steps made and the tasks made.
 #[derive(Clone, Copy)]
@@ -38,18 +31,17 @@ pub(crate) fn work_off<'c, K: ValueKind>(
 ) -> Result<Ran, AllocError>
     requires objects { main.own.objects ≤ length store.old }
     requires steps { step_bound (work_of main.work) + 1 ≤ 1000000 }
-    ensures { IfOk result (λ q. Serial (K.ValueKind.kind kind.now) store.old (task_of main.entry.own main.entry.work ∷ []) 0 1 (ran_of q store.new)) }
+    ensures { IfOk result (λ q. Serial (K.ValueKind.kind kind.now) store.old (model_of main.entry ∷ []) 0 1 (ran_of q store.new)) }
 {
-    let mut own = main.own;
-    let mut work = main.work;
+    let mut task = main;
     let mut pile: Vec<Task<'c>> = Vec::new(heap);
     let mut steps = 0;
     let mut made = 1;
     loop {
-        let stepped = match own.step(kind, &mut work, store) {
+        let stepped = match task.step(kind, store) {
             Ok(stepped) => stepped,
             Err(fault) => {
-                let place = work.place();
+                let place = task.work.place();
                 return Ok(Ran {
                     stop: Err(TaskFault { fault, place }),
                     steps,
@@ -61,22 +53,19 @@ pub(crate) fn work_off<'c, K: ValueKind>(
         match stepped {
             Stepped::Went | Stepped::Amended => {}
             Stepped::Finished => {
-                let Some(task) = pile.pop() else {
+                let Some(maker) = pile.pop() else {
                     return Ok(Ran {
                         stop: Ok(()),
                         steps,
                         made,
                     });
                 };
-                own = task.own;
-                work = task.work;
+                task = maker;
             }
-            Stepped::Made(child, fresh) => {
+            Stepped::Made(own, fresh) => {
                 made += 1;
-                let frames = Frames::new(heap)?;
-                let maker = mem::replace(&mut work, Work::begin(fresh, frames));
-                pile.push(Task { own, work: maker })?;
-                own = child;
+                let child = Task::begin(own, fresh, Frames::new(heap)?);
+                pile.push(mem::replace(&mut task, child))?;
             }
         }
     }

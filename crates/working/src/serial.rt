@@ -7,9 +7,10 @@ ghost use Rattle.working.specs.Results.{WorkedSerially};
 
 use crate::declared::Declared;
 use crate::fault::TaskFault;
-use crate::pile::{Task, work_off};
+use crate::pile::work_off;
 use crate::record::Record;
-use crate::work::{Frames, Fresh, Work};
+use crate::task::Task;
+use crate::work::{Frames, Fresh};
 use cards::Card;
 use kinds::ValueKind;
 use std::alloc::{AllocError, Global};
@@ -65,8 +66,8 @@ pub fn work_serially<K: ValueKind>(
 {
     let mut store = starting_words(heap, kind, card)?;
     let own = Record::main(kind, card);
-    let work = Work::begin(Fresh::main(card), Frames::new(heap)?);
-    let ran = work_off(heap, kind, Task { own, work }, &mut store)?;
+    let main = Task::begin(own, Fresh::main(card), Frames::new(heap)?);
+    let ran = work_off(heap, kind, main, &mut store)?;
     let outcome = match ran.stop {
         Ok(()) => Ok(store),
         Err(fault) => Err(fault),

@@ -6,14 +6,14 @@ use Rattle.cards.specs.Bounds.{step_bound}
 use Rattle.cards.specs.Cards.{card_of}
 use Rattle.working.specs.Tasks.{Task, starting_words}
 use Rattle.working.specs.Serial.{Outcome, words, result, Serial, Serially}
+use Rattle.working.specs.declared.record.Record.{Record}
 use Rattle.working.specs.declared.serial.Worked.{Worked}
 use Rattle.working.specs.declared.fault.TaskFault.{TaskFault}
-use Rattle.working.specs.Works.{ranks_of}
-use Rattle.working.specs.Steps.{task_of}
+use Rattle.working.specs.Steps.{model_of}
 use Rattle.working.specs.Results.{outcome_of, result_of, WorkedSerially}
 use Rattle.working.specs.Piles.{stop_of, ran_of}
 use Rattle.working.proofs.Serials.{serially_agrees, serially_bounded}
-use Rattle.working.proofs.Begins.{task_of_main}
+use Rattle.working.proofs.Begins.{fresh_main}
 use Rattle.working.proofs.serial.work_serially.Goals as goal
 use Rattle.working.proofs.serial.work_serially.Goals.{in-Ok, in-Err}
 
@@ -27,9 +27,9 @@ unfolding starting_words
 work_off-requires g c =
     let d = c.args.card.now in
     let m = c.deref_mut.ensures.value ∙ c.in_ok-store.ensures in
-    let h = ap step_bound (c.begin-work.ensures.work ∙ c.main.ensures.body) in
+    let h = ap step_bound (c.begin-main.ensures.work ∙ c.main.ensures.body) in
     record {
-      objects = omega (arith, ap length m, length-map d.words.items (g.K.ValueKind.kind c.args.kind.now).literal, c.main-own.ensures.objects);
+      objects = omega (arith, ap length m, length-map d.words.items (g.K.ValueKind.kind c.args.kind.now).literal, c.main-own.ensures.objects, ap (λ (x : Record). x.objects) c.begin-main.ensures.own);
       steps = omega (arith, h, d.steps);
     }
 
@@ -39,16 +39,15 @@ returns g c =
     let card = card_of c.args.card.now in
     let ran = c.in_ok-ran.ran in
     let last = c.work_off.new.store in
-    let b = c.begin-work.ensures in
     let f = c.main.ensures in
     let m = c.deref_mut.ensures.value ∙ c.in_ok-store.ensures in
-    let t = task_of_main k card c.main-own.result c.begin-work.result c.main-own.ensures (b.work ∙ f.body) (ap ranks_of b.place ∙ f.place) b.children in
+    let t = c.begin-main.ensures.task ∙ fresh_main k card c.main-own.result c.main.result c.main-own.ensures f.body f.place in
     let e : length last ≡ c.in_ok-store.store.len = search rules in
     let same : stop_of ran.stop last ≡ outcome_of c.match-ran.outcome =
     elim c.match-ran.branch [
       | in-Ok w ↦ ap (λ (s : Result (Unit {0}) TaskFault). stop_of s last) w.in-Ok.is ∙ ap words (sym (take_at last _ c.in_ok-store.store.len e)) ∙ ap outcome_of (sym w.outcome-is)
       | in-Err w ↦ ap (λ (s : Result (Unit {0}) TaskFault). stop_of s last) w.in-Err.is ∙ ap outcome_of (sym w.outcome-is)
     ] in
-    let s = subst (λ (x : List ℕ). Serial k x (task_of c.main-own.result c.begin-work.result ∷ []) 0 1 (ran_of ran last)) m c.in_ok-ran.ensures in
+    let s = subst (λ (x : List ℕ). Serial k x (model_of c.begin-main.result ∷ []) 0 1 (ran_of ran last)) m c.in_ok-ran.ensures in
     let r = subst (λ (x : Task). Serial k (starting_words k card) (x ∷ []) 0 1 (ran_of ran last)) t s in
     worked k card _ (subst (λ (o : Outcome). Serially k card (result o ran.steps ran.made)) same r)
