@@ -1,7 +1,7 @@
 -- When an event is granted, and what it then does.
-use Rattle.std.proofs.Common.{◌≡◌, ℕ, Bool, true, false, cond, not, ◌&&◌, List, [], ◌∷◌, ◌++◌, Some, None, Option, option_and_then, refl, ap, ◌∙◌}
+use Rattle.std.proofs.Common.{◌≡◌, ℕ, Bool, true, false, cond, not, ◌&&◌, List, [], ◌∷◌, ◌++◌, Some, None, Option, option_and_then, refl, ap, ◌∙◌, arith}
 use Rattle.std.specs.Option.{option_map_or}
-use Rattle.std.proofs.lemmas.Bool.{not-true, not_from_false, and_parts, and_from, cond-true}
+use Rattle.std.proofs.lemmas.Bool.{not-true, and_parts}
 use Rattle.kinds.specs.Kinds.{Kind}
 use Rattle.cards.specs.Code.{Card}
 use Rattle.runs.specs.Lines.{Status, Member, find}
@@ -48,7 +48,7 @@ apply_some k e b b₁ q = go (not b.closed && grants e b) refl q
 
 pub apply_granted : (k : Kind) (e : Event) (b : Bench) → b.closed ≡ false → grants e b ≡ true → apply k e b ≡ Some (effect k e b)
 unfolding apply
-apply_granted k e b z g = cond-true (not b.closed && grants e b) _ _ (and_from _ _ (not_from_false _ z) g)
+apply_granted k e b z g = grind arith
 
 -- More events.
 

@@ -1,8 +1,8 @@
 -- Members of a line: where one stands, and the line with others in its place.
-use Rattle.std.proofs.Common.{◌≡◌, ℕ, Bool, true, false, cond, eqb, List, [], ◌∷◌, ◌++◌, map, Some, sym, refl, ap, subst}
+use Rattle.std.proofs.Common.{◌≡◌, ℕ, Bool, true, false, cond, eqb, List, [], ◌∷◌, ◌++◌, map, Some, sym, refl, ap, subst, arith}
 use Rattle.std.specs.List.{AllByRecursion}
 use Rattle.std.proofs.lemmas.List.{map-append}
-use Rattle.std.proofs.lemmas.Bool.{eqb-true, ne_eqb, eq-eqb, or_parts, or_from, or_left, or_right}
+use Rattle.std.proofs.lemmas.Bool.{eqb-true, ne_eqb, eq-eqb}
 use Rattle.working.specs.Tasks.{Task}
 use Rattle.runs.specs.Lines.{Status, waiting, out, stuck, is_out, Member, member, with_status, find, replace, any_out}
 
@@ -82,18 +82,15 @@ replace_replaced n w e new (u ∷ us) = go (eqb u.number n) refl (replace_replac
 
 pub out_somewhere : (before : List Member) (s : Member) (behind : List Member) → s.status ≡ out → any_out (before ++ (s ∷ behind)) ≡ true
 unfolding any_out is_out
-out_somewhere [] s behind e = or_left (is_out s.status) (any_out behind) (ap is_out e)
-out_somewhere (u ∷ us) s behind e = or_right (is_out u.status) (any_out (us ++ (s ∷ behind))) (out_somewhere us s behind e)
+out_somewhere [] s behind e = rw e
+out_somewhere (u ∷ us) s behind e = grind (arith, out_somewhere us s behind e)
 
 pub none_out_parts : (before : List Member) (s : Member) (behind : List Member) → any_out (before ++ (s ∷ behind)) ≡ false → (any_out before ≡ false) × (any_out behind ≡ false)
 unfolding any_out
-none_out_parts [] s behind e = (refl, (or_parts (is_out s.status) (any_out behind) e).1)
-none_out_parts (u ∷ us) s behind e =
-    let p = or_parts (is_out u.status) (any_out (us ++ (s ∷ behind))) e in
-    let q = none_out_parts us s behind p.1 in
-    (or_from _ _ p.0 q.0, q.1)
+none_out_parts [] s behind e = (refl, grind arith)
+none_out_parts (u ∷ us) s behind e = grind (arith, none_out_parts us s behind)
 
 pub none_out_append : (xs ys : List Member) → any_out xs ≡ false → any_out ys ≡ false → any_out (xs ++ ys) ≡ false
 unfolding any_out
 none_out_append [] ys e g = g
-none_out_append (x ∷ xs) ys e g = let p = or_parts (is_out x.status) (any_out xs) e in or_from _ _ p.0 (none_out_append xs ys p.1 g)
+none_out_append (x ∷ xs) ys e g = grind (arith, none_out_append xs ys)

@@ -1,8 +1,8 @@
 -- Every reached bench keeps the invariant, and once settled it agrees with serial working.
-use Rattle.std.proofs.Common.{◌≡◌, ℕ, true, false, not, ◌&&◌, ◌⊎◌, List, [], ◌∷◌, ◌++◌, Some, sym, refl, ap, ◌∙◌, subst, inl, inr, ⊎_elim, arith}
+use Rattle.std.proofs.Common.{◌≡◌, ℕ, true, false, not, ◌&&◌, ◌⊎◌, List, [], ◌∷◌, ◌++◌, Some, sym, refl, ap, ◌∙◌, subst, inl, inr, arith}
 use Rattle.std.specs.List.{AllByRecursion}
 use Rattle.std.proofs.ByRecursion.{All-weaker}
-use Rattle.std.proofs.lemmas.Bool.{both_ways, not-true, not_from_false, and_parts, and_from, cases_Bool, or_left, cond-true}
+use Rattle.std.proofs.lemmas.Bool.{both_ways, not_from_false, and_from, cond-true}
 use Rattle.kinds.specs.Kinds.{Kind, Lawful}
 use Rattle.cards.specs.Code.{Card}
 use Rattle.working.specs.declared.fault.FaultKind.{FaultKind}
@@ -75,7 +75,7 @@ module _ (k : Kind) (c : Card) (r : Result) (b : Bench) (going_on : b.closed ≡
   holds_effect law (took n) e =
       let g = test_found n b.line (on_offer b.line) e in
       let f = own n g.0 g.1 in
-      subst (Holds k c r) (sym (put_found n out b g.0 g.1)) (holds_marked g.0 out f tt (λ q. apart_before g.0 f (and_parts (ready b.line g.0) _ g.2).0))
+      subst (Holds k c r) (sym (put_found n out b g.0 g.1)) (holds_marked g.0 out f tt (λ q. apart_before g.0 f (grind arith)))
   holds_effect law (performed n) e =
       let g = test_found n b.line (λ s. is_out s.status) e in
       subst (Holds k c r) (sym (advanced_found k n b g.0 g.1)) (holds_step law g.0 (own n g.0 g.1) (out_is g.0.status g.2))
@@ -83,8 +83,7 @@ module _ (k : Kind) (c : Card) (r : Result) (b : Bench) (going_on : b.closed ≡
       let g = test_found n b.line (λ s. is_out s.status) e in
       subst (Holds k c r) (sym (put_found n waiting b g.0 g.1)) (holds_marked g.0 waiting (own n g.0 g.1) tt (λ q. cc))
   holds_effect law Event.closed e =
-      let q = and_parts (settled b) (not (any_out b.line)) e in
-      record { sound = h.sound; shut = λ x. record { settled_yet = q.0; none_out = not-true _ q.1 } }
+      record { sound = h.sound; shut = λ x. record { settled_yet = grind arith; none_out = grind arith } }
 
 pub holds_apply : (k : Kind) → Lawful k → (c : Card) (r : Result) (b : Bench) (e : Event) (b₁ : Bench) → Holds k c r b → apply k e b ≡ Some b₁ → Holds k c r b₁
 holds_apply k law c r b e b₁ h q = let a = apply_some k e b b₁ q in subst (Holds k c r) a.makes (holds_effect k c r b a.going_on h law e a.allowed)
@@ -125,8 +124,8 @@ first_offered (s ∷ ss) e = go s.status refl
         let t = and_from (ready (s ∷ ss) s) (not (is_out s.status)) (clear_ready (s ∷ ss) s (ap is_stuck p) (apart_clear s [] ss tt)) (not_from_false _ (ap is_out p)) in
         let o = cond-true (ready (s ∷ ss) s && not (is_out s.status)) (s.number ∷ offered (s ∷ ss) ss) (offered (s ∷ ss) ss) t in
         inr (λ q. cc)
-    go out p = inl (or_left (is_out s.status) (any_out ss) (ap is_out p))
-    go (stuck f l) p = absurd (both_ways (is_stuck s.status) e (ap is_stuck p))
+    go out p = inl (rw p)
+    go (stuck f l) p = let q = ap is_stuck p in cc
 
 -- a task whose turn is out stays ready
 pub still_ready : (k : Kind) (c : Card) (r : Result) (b : Bench) → Holds k c r b → (before : List Member) (s : Member) (behind : List Member) → b.line ≡ before ++ (s ∷ behind) → s.status ≡ out → ready b.line s ≡ true
@@ -143,7 +142,8 @@ turn_open k c r b n h e =
     let g = test_found n b.line (λ s. is_out s.status) e in
     let f = found n b.line g.0 g.1 in
     let w : any_out b.line ≡ true = rw f.split (out_somewhere f.before g.0 f.behind (out_is g.0.status g.2)) in
-    ⊎_elim (λ x. absurd (both_ways (any_out b.line) (h.shut x).none_out w)) (λ x. x) (cases_Bool b.closed)
+    let x : b.closed ≡ true → any_out b.line ≡ false = λ x. (h.shut x).none_out in
+    grind arith
 
 -- What it comes to.
 

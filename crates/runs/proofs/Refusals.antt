@@ -1,7 +1,7 @@
 -- When a call is refused, and that it then changes nothing.
-use Rattle.std.proofs.Common.{◌≡◌, ℕ, Bool, true, false, cond, not, eqb, leb, ◌⊎◌, ◌↔◌, List, [], ◌∷◌, length, Some, None, Option, sym, refl, ap, ◌∙◌, subst, inl, inr}
+use Rattle.std.proofs.Common.{◌≡◌, ℕ, Bool, true, false, cond, not, eqb, leb, ◌⊎◌, ◌↔◌, List, [], ◌∷◌, length, Some, None, Option, sym, refl, ap, ◌∙◌, subst, inl, inr, arith}
 use Rattle.std.specs.Option.{option_map_or}
-use Rattle.std.proofs.lemmas.Bool.{both_ways, not-false, not_from_true, and_parts, leb-false, lt-leb, cond-true, cond-false}
+use Rattle.std.proofs.lemmas.Bool.{both_ways, not-false, not_from_true, leb-false, lt-leb, cond-true, cond-false}
 use Rattle.kinds.specs.Kinds.{Kind}
 use Rattle.working.specs.Requests.{Reply, faulted, stepped}
 use Rattle.runs.specs.Lines.{is_out, Member, any_out}
@@ -41,7 +41,7 @@ unless_some false r q e = (refl, cc)
 step_granted : (k : Kind) (t : Turn) (b : Bench) (r : Refusal) → fits_turn t b ≡ true → step_answer k t.task b ≡ refused r → ⊥
 unfolding fits_turn has_turn step_answer reply_answer
 step_granted k t b r f e =
-    let s = test_found t.task b.line (λ s. is_out s.status) (and_parts (eqb t.run b.run) _ f).1 in
+    let s = test_found t.task b.line (λ s. is_out s.status) (grind arith) in
     no (replied k b s.0) (sym (ap (λ (o : Option Member). option_map_or (λ s. reply_answer (replied k b s)) o (refused Foreign)) s.1) ∙ e)
   where
     no : (p : Reply) → reply_answer p ≡ refused r → ⊥

@@ -1,8 +1,7 @@
 -- One turn: what is offered can be taken, what is taken can be performed, and less is left to do.
-use Rattle.std.proofs.Common.{◌≡◌, ℕ, zero, suc, ◌<◌, Bool, true, false, cond, not, List, [], ◌∷◌, ◌++◌, length, get_or, Some, sym, refl, ap, ◌∙◌, subst, ⊎_elim, append_assoc, arith}
+use Rattle.std.proofs.Common.{◌≡◌, ℕ, zero, suc, ◌<◌, Bool, true, false, cond, List, [], ◌∷◌, ◌++◌, length, get_or, Some, sym, refl, ap, ◌∙◌, subst, ⊎_elim, append_assoc, arith}
 use Rattle.std.specs.List.{AllByRecursion}
 use Rattle.std.proofs.ByRecursion.{All-weaker}
-use Rattle.std.proofs.lemmas.Bool.{both_ways, not-true, and_parts}
 use Rattle.kinds.specs.Kinds.{Kind}
 use Rattle.cards.specs.Code.{Card}
 use Rattle.working.specs.Requests.{Next, leaves, goes, makes, Reply, faulted, stepped}
@@ -45,9 +44,7 @@ offered_at line before (s ∷ ss) i e h = go (on_offer line s) refl i h (λ j. o
 
 offered_waits : (line : List Member) (s : Member) → on_offer line s ≡ true → s.status ≡ waiting
 unfolding on_offer ready is_stuck is_out
-offered_waits line s e =
-    let p = and_parts (ready line s) (not (is_out s.status)) e in
-    go s.status (not-true _ (and_parts (not (is_stuck s.status)) _ p.0).0) (not-true _ p.1)
+offered_waits line s e = go s.status (grind arith) (grind arith)
   where
     go : (u : Status) → is_stuck u ≡ false → is_out u ≡ false → u ≡ waiting
     go waiting p q = refl
@@ -165,5 +162,5 @@ chosen_taken f b e =
 pub turns : (k : Kind) (c : Card) (r : Result) (f : List ℕ → ℕ) (b : Bench) → Holds k c r b → b.closed ≡ false → any_out b.line ≡ false → settled b ≡ false → Chooses f → Turns k f b
 unfolding settled offer
 turns k c r f b h z o s l =
-    let some_offered : offer b ≡ [] → ⊥ = ⊎_elim (λ e. absurd (both_ways (any_out b.line) o e)) (λ e. e) (first_offered b.line s) in
+    let some_offered : offer b ≡ [] → ⊥ = ⊎_elim (λ e. cc) (λ e. e) (first_offered b.line s) in
     turns_taken k f b z o (taken k c r f b h l some_offered)

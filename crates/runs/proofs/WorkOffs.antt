@@ -1,6 +1,6 @@
 -- A work-off ends where the bench can close, and granted events lead there.
-use Rattle.std.proofs.Common.{◌≡◌, ℕ, zero, suc, ◌≤◌, Bool, true, false, cond, not, ◌&&◌, eqb, List, Some, None, Option, sym, refl, ap, ap₂, ◌∙◌, arith}
-use Rattle.std.proofs.lemmas.Bool.{not-true, not_from_false, and_parts, and_from, cond-true, cond-false}
+use Rattle.std.proofs.Common.{◌≡◌, ℕ, zero, suc, ◌≤◌, Bool, true, false, cond, not, eqb, List, Some, None, Option, sym, refl, ap, ap₂, ◌∙◌, arith}
+use Rattle.std.proofs.lemmas.Bool.{cond-true, cond-false}
 use Rattle.kinds.specs.Kinds.{Kind, Lawful}
 use Rattle.cards.specs.Code.{Card}
 use Rattle.working.specs.Serial.{Result}
@@ -116,7 +116,7 @@ module _ (k : Kind) (law : Lawful k) (c : Card) (n : ℕ) (r : Result) where
 
 pub going_open : (g : Going) (b : Bench) → fits_going g b ≡ true → b.closed ≡ false
 unfolding fits_going
-going_open g b e = not-true _ (and_parts (eqb g.run b.run) (not b.closed) e).1
+going_open g b e = grind arith
 
 no_refusal : (k : Kind) (g : Going) (fs : ℕ → List ℕ → ℕ) (b : Bench) → refusal k (Call.work_off g fs) b ≡ None → (fits_going g b ≡ true) × (any_out b.line ≡ false)
 unfolding refusal fits own_refusal unless
@@ -130,8 +130,8 @@ no_refusal k g fs b e = go (fits_going g b) (any_out b.line) e
 granted_still : (k : Kind) (g : Going) (fs : ℕ → List ℕ → ℕ) (b b₁ : Bench) → b₁.run ≡ b.run → fits_going g b ≡ true → b₁.closed ≡ false → any_out b₁.line ≡ false → refusal k (Call.work_off g fs) b₁ ≡ None
 unfolding refusal fits own_refusal unless fits_going
 granted_still k g fs b b₁ e h z o =
-    let p : (eqb g.run b₁.run && not b₁.closed) ≡ true = and_from _ _ (ap (λ (r : ℕ). eqb g.run r) e ∙ (and_parts (eqb g.run b.run) (not b.closed) h).0) (not_from_false _ z) in
-    cond-true (eqb g.run b₁.run && not b₁.closed) _ _ p ∙ ap (λ (x : Bool). unless (not x) Unsettled) o
+    let own : eqb g.run b.run ≡ true = grind arith in
+    rw (z, o, e, own)
 
 pub turned_run : (k : Kind) (f : List ℕ → ℕ) (b : Bench) → (turned k f b).run ≡ b.run
 unfolding turned
