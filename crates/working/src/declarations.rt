@@ -1,6 +1,5 @@
 // What a record declares, and what declaration sections do to it.
-ghost use Rattle.std.specs.Prelude.{◌≡◌, ℕ, ◌<◌, true, length, slice_index_or};
-ghost use Rattle.cards.specs.Sections.{no_declaration};
+ghost use Rattle.std.specs.Prelude.{◌≡◌, ◌<◌, length};
 ghost use Rattle.working.specs.Tasks as Tasks;
 ghost use Rattle.working.specs.Requests.{amended, endowed};
 ghost use Rattle.working.specs.Records.{declared_of, section_of, access_fault, Reaches, AmendedRecord, ChildRecord};
@@ -8,7 +7,7 @@ ghost use Rattle.working.specs.Records.{declared_of, section_of, access_fault, R
 use crate::declared::Declared;
 use crate::fault::{Fault, FaultKind, Refused};
 use crate::record::Record;
-use cards::{Access, Declaration, Level, Pointer, Section};
+use cards::{Access, Level, Pointer, Section};
 
 impl Declared {
     // The level of an access.
@@ -27,11 +26,7 @@ impl Declared {
 fn level(ds: &[Declared], o: usize, a: Access) -> Level
     ensures { result ≡ Tasks.level ds.now o a }
 {
-    if o < ds.len() {
-        ds[o].state(a)
-    } else {
-        Level::Absent
-    }
+    ds.get(o).map_or(Level::Absent, |d| d.state(a))
 }
 
 fn assign(ds: &mut [Declared], o: usize, a: Access, level: Level)
@@ -46,11 +41,10 @@ fn assign(ds: &mut [Declared], o: usize, a: Access, level: Level)
 }
 
 // What `with` does to declarations, up to the first that is refused.
-fn amend(pointers: &[u8; 4], ds: &mut [Declared], lines: &[Declaration]) -> Result<(), Refused>
-    requires { (i : ℕ) → i < length lines.now → (slice_index_or lines.now i no_declaration).pointer < 4 }
-    ensures { amended pointers.now ds.old lines.now ≡ section_of result ds.new }
+fn amend(pointers: &[u8; 4], ds: &mut [Declared], section: &Section) -> Result<(), Refused>
+    ensures { amended pointers.now ds.old section.now.lines.items ≡ section_of result ds.new }
 {
-    for x in lines {
+    for x in &section.lines {
         let o = pointers[x.pointer as usize] as usize;
         if !level(ds, o, x.access).is_held() {
             return Err(Refused { line: x.line });
@@ -65,13 +59,12 @@ fn endow(
     pointers: &[u8; 4],
     maker: &[Declared],
     ds: &mut [Declared],
-    lines: &[Declaration],
+    section: &Section,
 ) -> Result<(), Refused>
-    requires pointers { (i : ℕ) → i < length lines.now → (slice_index_or lines.now i no_declaration).pointer < 4 }
-    requires same { length ds.old ≡ length maker.now }
-    ensures { endowed pointers.now maker.now ds.old lines.now ≡ section_of result ds.new }
+    requires { length ds.old ≡ length maker.now }
+    ensures { endowed pointers.now maker.now ds.old section.now.lines.items ≡ section_of result ds.new }
 {
-    for x in lines {
+    for x in &section.lines {
         let o = pointers[x.pointer as usize] as usize;
         if !level(maker, o, x.access).is_held() {
             return Err(Refused { line: x.line });
@@ -122,11 +115,8 @@ impl Record {
         ensures { AmendedRecord section.now.lines.items self.old result self.new }
     {
         let mut ds = self.declared;
-        amend(
-            &self.pointers,
-            &mut ds[..self.objects as usize],
-            &section.lines,
-        )?;
+        let objects = self.objects as usize;
+        amend(&self.pointers, &mut ds[..objects], section)?;
         self.declared = ds;
         Ok(())
     }
@@ -140,7 +130,7 @@ impl Record {
             &self.pointers,
             self.declared(),
             &mut ds[..self.objects as usize],
-            &section.lines,
+            section,
         )?;
         Ok(Record {
             words: self.words,

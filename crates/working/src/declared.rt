@@ -1,7 +1,7 @@
 // What a task declares on one object.
 use cards::Level;
 
-#[derive(Clone, Copy)]
+#[derive(Clone, Copy, Debug, PartialEq, Eq)]
 pub struct Declared {
     pub reads: Level,
     pub writes: Level,

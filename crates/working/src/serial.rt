@@ -48,12 +48,7 @@ pub fn starting_words<K: ValueKind>(
 ) -> Result<Vec<u32>, AllocError>
     ensures { IfOk result (λ v. v.items ≡ starting_words (K.ValueKind.kind kind.now) (card_of card.now)) }
 {
-    let mut store = Vec::new(heap);
-    let words = card.words();
-    for w in words {
-        store.push(kind.literal(*w))?;
-    }
-    Ok(store)
+    card.words().iter().map(|w| kind.literal(*w)).collect(heap)
 }
 
 // Works a card serially: a task that makes a child waits until the child is finished.
@@ -68,10 +63,7 @@ pub fn work_serially<K: ValueKind>(
     let own = Record::main(kind, card);
     let main = Task::begin(own, Fresh::main(card), Frames::new(heap)?);
     let ran = work_off(heap, kind, main, &mut store)?;
-    let outcome = match ran.stop {
-        Ok(()) => Ok(store),
-        Err(fault) => Err(fault),
-    };
+    let outcome = ran.stop.and(Ok(store));
     Ok(Worked {
         outcome,
         steps: ran.steps,

@@ -1,5 +1,7 @@
-use Rattle.std.proofs.Common.{◌≡◌, ℕ, List, [], ◌∷◌, length, sym, ap, ◌∙◌, subst, arith, rules, Result}
+use Rattle.std.proofs.Common.{◌≡◌, ℕ, List, [], ◌∷◌, length, sym, ap, ◌∙◌, subst, arith, rules, Vec, vec_items, Result, Ok, Err, refl}
 use Rattle.std.proofs.lemmas.List.{length-map, take_at}
+use Rattle.std.specs.Result.{result_and}
+use Rattle.std.specs.declared.alloc.Global.{Global}
 use Rattle.kinds.specs.Kinds.{Kind}
 use Rattle.cards.specs.Code.{Card}
 use Rattle.cards.specs.Bounds.{step_bound}
@@ -15,7 +17,10 @@ use Rattle.working.specs.Piles.{stop_of, ran_of}
 use Rattle.working.proofs.Serials.{serially_agrees, serially_bounded}
 use Rattle.working.proofs.Begins.{fresh_main}
 use Rattle.working.proofs.serial.work_serially.Goals as goal
-use Rattle.working.proofs.serial.work_serially.Goals.{in-Ok, in-Err}
+
+outcomes : (s : Result (Unit {0}) TaskFault) (v : Vec ℕ Global) (m : List ℕ) → vec_items v ≡ m → stop_of s m ≡ outcome_of (result_and s (Ok v))
+outcomes (Ok u) v m e = ap words (sym e)
+outcomes (Err f) v m e = refl
 
 worked : (k : Kind) (c : Card) (w : Worked) → Serially k c (result_of w) → WorkedSerially k c w
 worked k c w s =
@@ -43,11 +48,8 @@ returns g c =
     let m = c.deref_mut.ensures.value ∙ c.in_ok-store.ensures in
     let t = c.begin-main.ensures.task ∙ fresh_main k card c.main-own.result c.main.result c.main-own.ensures f.body f.place in
     let e : length last ≡ c.in_ok-store.store.len = search rules in
-    let same : stop_of ran.stop last ≡ outcome_of c.match-ran.outcome =
-    elim c.match-ran.branch [
-      | in-Ok w ↦ ap (λ (s : Result (Unit {0}) TaskFault). stop_of s last) w.in-Ok.is ∙ ap words (sym (take_at last _ c.in_ok-store.store.len e)) ∙ ap outcome_of (sym w.outcome-is)
-      | in-Err w ↦ ap (λ (s : Result (Unit {0}) TaskFault). stop_of s last) w.in-Err.is ∙ ap outcome_of (sym w.outcome-is)
-    ] in
+    let same : stop_of ran.stop last ≡ outcome_of c.and-outcome.result =
+    outcomes ran.stop _ last (take_at last _ c.in_ok-store.store.len e) ∙ ap outcome_of (sym c.and-outcome.ensures) in
     let s = subst (λ (x : List ℕ). Serial k x (model_of c.begin-main.result ∷ []) 0 1 (ran_of ran last)) m c.in_ok-ran.ensures in
     let r = subst (λ (x : Task). Serial k (starting_words k card) (x ∷ []) 0 1 (ran_of ran last)) t s in
     worked k card _ (subst (λ (o : Outcome). Serially k card (result o ran.steps ran.made)) same r)
