@@ -1,6 +1,6 @@
 // Appends the parts of a sheet to a vector of bytes. None allocates but by the vector's own growth.
 //
-// By appends, and not by `write!`: no clause of `write!` says that it succeeds where there is room.
+// By appends and not by `write!`, which leaves the proof open: no clause of it says that it succeeds where there is room.
 #![tactic(auto, using(crate::proofs::Turns::appends))]
 
 ghost use Rattle.std.specs.Prelude.{[], ◌∷◌, ◌++◌};

@@ -53,7 +53,7 @@ pub fn refused_sheet(heap: Global, number: u32, line: u32, word: u32) -> Result<
 }
 
 // Appends what `run_sheet` makes: at most `LONGEST` bytes for at most 16 words. It never fails if there is room.
-#[tactic(auto, using(crate::proofs::Turns::appends, crate::proofs::Sizes::length_run))]
+#[tactic(auto, using(crate::proofs::Turns::appends))]
 pub fn append_run<K: ValueKind>(
     out: &mut Vec<u8>,
     kind: &K,
@@ -84,6 +84,7 @@ pub fn append_fault(out: &mut Vec<u8>, fault: Fault, place: &[u8]) -> Result<(),
     append::task(out, place)
 }
 
+// The word of a fault's line. A text and no `Display`, since a line appends a text (`append.rt` says why).
 fn fault_name(kind: FaultKind) -> &'static str
     ensures { result.now ≡ fault_name kind }
 {
