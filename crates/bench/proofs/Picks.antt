@@ -1,6 +1,5 @@
 -- A pick from what is offered.
-use Rattle.std.proofs.Common.{◌≡◌, ℕ, ◌<◌, ◌≤◌, true, false, List, [], ◌∷◌, length, get_or, take, is_some, Some, sym, refl, ap, ⊎_elim, arith, length-take}
-use mathlib.Core.Option.{none, some}
+use Rattle.std.proofs.Common.{◌≡◌, ℕ, ◌<◌, ◌≤◌, true, false, List, [], ◌∷◌, length, get_or, take, is_some, Some, sym, refl, ap, ⊎_elim, arith, length-take, None}
 use Rattle.std.proofs.lemmas.List.{get_or-take}
 use Rattle.std.proofs.lemmas.Bool.{both_ways}
 use Rattle.schedulers.specs.Schedulers.{picked}
@@ -23,11 +22,11 @@ unsettled_offers b s o = go (offer b) (λ e. nothing_settles b e s o)
     go [] h = absurd (h refl)
     go (n ∷ ns) h = omega arith
 
-pub refuses_nothing : (ns : List ℕ) → ns ≡ [] → unless (not_empty ns) NothingToOffer ≡ some NothingToOffer
+pub refuses_nothing : (ns : List ℕ) → ns ≡ [] → unless (not_empty ns) NothingToOffer ≡ Some NothingToOffer
 unfolding unless not_empty
 refuses_nothing ns e = ap (λ (l : List ℕ). unless (not_empty l) NothingToOffer) e
 
-pub grants_some : (ns : List ℕ) → 0 < length ns → unless (not_empty ns) NothingToOffer ≡ none
+pub grants_some : (ns : List ℕ) → 0 < length ns → unless (not_empty ns) NothingToOffer ≡ None
 unfolding unless not_empty
 grants_some [] h = absurd (omega arith)
 grants_some (n ∷ ns) h = refl

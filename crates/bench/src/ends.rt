@@ -7,8 +7,9 @@ ghost use Rattle.lines.specs.Lines.{line_of};
 ghost use Rattle.bench.specs.Views.{bench_of};
 ghost use Rattle.bench.specs.Ends.{AtWork, TurnsOnce, Working, Settles, WorksAll, Closes};
 
-use crate::answers::{Performed, Refused};
+use crate::answers::Refused;
 use crate::bench::Bench;
+use crate::choose::choose;
 use crate::follow::follow_waiting;
 use crate::tokens::{Closed, Going};
 use kinds::ValueKind;
@@ -25,11 +26,10 @@ impl<'c, K: ValueKind> Bench<'c, K> {
         ensures turns { TurnsOnce (K.kind self.old.kind.now) S.choice S.next scheduler.old self.old scheduler.new self.new }
         ensures stays { result ≡ true → self.new.line ≡ self.old.line }
     {
-        let place = scheduler.pick(offered).unwrap();
-        let n = offered[place];
+        let n = choose(scheduler, offered);
         let progress = self.tasks.step(self.kind, n).unwrap();
         let stays = follow_waiting(&mut self.line, &self.tasks, n, progress);
-        self.steps += Performed::of(progress).steps();
+        self.steps += u32::from(progress.is_ok());
         stays
     }
 
@@ -41,8 +41,8 @@ impl<'c, K: ValueKind> Bench<'c, K> {
         ensures falls { left (bench_of self.new).line < left (bench_of self.old).line }
     {
         let mut row = [0; 64];
-        let count = self.line.offer(&mut row);
-        while self.turn(&row[..count], scheduler) {}
+        let offered = self.line.offer(&mut row);
+        while self.turn(offered, scheduler) {}
     }
 
     // Takes and performs turns until the run is settled.
