@@ -12,6 +12,7 @@ use Rattle.working.specs.declared.fault.Fault.{Fault}
 use Rattle.working.specs.declared.place.Place.{Place}
 use Rattle.working.specs.declared.record.Record.{Record}
 use Rattle.working.specs.declared.task.Task as Rust
+use Rattle.working.specs.declared.frame.Rounds.{Rounds}
 use Rattle.working.specs.declared.moves.Head.TheVariants.{Nothing, Next, Round}
 use Rattle.working.specs.declared.work.Work.{Work}
 use Rattle.working.specs.declared.work.Fresh.{Fresh}
@@ -105,8 +106,8 @@ stays_on u v w s t = (t.0 ∙ s.0, t.1 ∙ s.1)
 
 -- u is what is left of the work of t at its head
 module _ (k : Kind) (m : List ℕ) (t t' : Rust.Task) (u : Work) (stays : Stays t.work u) where
-  pub answers_rounds : (l n : ℕ) (x r : Bor tree.Block) → Heads (Round l n x r) t.work u → work_of t'.work ≡ after_rounds l n (block_of x.now) (over (block_of r.now) u) → Stays u t'.work → t'.own ≡ t.own → Answered k t m (Ok Went) t' m
-  answers_rounds l n x r h e s a = answers_round k m t t' l n (block_of x.now) (over (block_of r.now) u) h.0 e (stays_on t.work u t'.work stays s) a
+  pub answers_rounds : (q : Rounds) → Heads (Round q) t.work u → work_of t'.work ≡ after_rounds q.line q.left (block_of q.body.now) (over (block_of q.rest.now) u) → Stays u t'.work → t'.own ≡ t.own → Answered k t m (Ok Went) t' m
+  answers_rounds q h e s a = answers_round k m t t' q.line q.left (block_of q.body.now) (over (block_of q.rest.now) u) h.0 e (stays_on t.work u t'.work stays s) a
 
   -- it is the step of s
   module _ (m' : List ℕ) (s : Bor Step) (head : Heads (Next s) t.work u) where

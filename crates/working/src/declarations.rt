@@ -54,7 +54,8 @@ fn amend(pointers: &[u8; 4], ds: &mut [Declared], section: &Section) -> Result<(
     Ok(())
 }
 
-// What `task` makes of a child's declarations by its maker's, up to the first that is refused.
+// What `task` makes of a child's declarations by its maker's, up to the first that is refused. A loop of its own:
+// `amend` asks the declarations that it changes, so no parameter stands for what both ask.
 fn endow(
     pointers: &[u8; 4],
     maker: &[Declared],

@@ -14,7 +14,8 @@ use kinds::ValueKind;
 use std::alloc::{AllocError, Global};
 use std::mem;
 
-// Where working stops: all tasks are finished, or one faults. With the steps made and the tasks made.
+// Where working stops: all tasks are finished, or one faults. With the steps made and the tasks made. Not a `Worked`,
+// since the words stay with the caller.
 #[derive(Clone, Copy)]
 pub(crate) struct Ran {
     pub stop: Result<(), TaskFault>,

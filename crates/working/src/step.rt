@@ -7,6 +7,7 @@ ghost use Rattle.working.specs.Steps.{model_of, fresh_task, Answered, ChildSized
 
 use crate::effect::Effect;
 use crate::fault::Fault;
+use crate::frame::Rounds;
 use crate::moves::Head;
 use crate::record::Record;
 use crate::task::Task;
@@ -45,16 +46,11 @@ impl<'c> Task<'c> {
     {
         match self.work.head() {
             Head::Nothing => Ok(Stepped::Finished),
-            Head::Round {
-                line,
-                left,
-                body,
-                rest,
-            } => {
-                self.work.round(line, left, body, rest);
+            Head::Round(rounds) => {
+                self.work.round(rounds);
                 Ok(Stepped::Went)
             }
-            Head::Next { step } => {
+            Head::Next(step) => {
                 let effect = self.own.act(kind, store, step)?;
                 match effect {
                     Effect::Passes => {
@@ -69,8 +65,13 @@ impl<'c> Task<'c> {
                         self.work.enter(arm, &step.rest);
                         Ok(Stepped::Went)
                     }
-                    Effect::Repeats(count, body) => {
-                        self.work.round(step.line, count, body, &step.rest);
+                    Effect::Repeats(left, body) => {
+                        self.work.round(Rounds {
+                            line: step.line,
+                            left,
+                            body,
+                            rest: &step.rest,
+                        });
                         Ok(Stepped::Went)
                     }
                     Effect::Makes(child, body) => {

@@ -31,7 +31,7 @@ round-requires-in-Repeats g c =
     let u = c.head.new.self in
     let s = c.in-Next.step.now in
     let at = c.in-Next.ensures.heads.1 in
-    let n = c.in-Repeats.count in
+    let n = c.in-Repeats.left in
     let x = block_of c.in-Repeats.body.now in
     let e = (repeats_is s n c.in-Repeats.body (rw c.in-Repeats.is at c.in_ok-effect-in-Next.ensures.does)).0 in
     record { fits = fits_rounds u s at n x e; few = few_rounds u s at n x e }
@@ -50,7 +50,7 @@ returns-in-Nothing-clause-answer g c = answers_finished _ _ _ _ c.in-Nothing.ens
 pub returns-in-Round-clause-answer : goal.returns-in-Round-clause-answer
 returns-in-Round-clause-answer g c =
     let h = c.in-Round.ensures in
-    answers_rounds _ _ _ _ c.head.new.self h.stays c.in-Round.line c.in-Round.left c.in-Round.body c.in-Round.rest h.heads c.round.ensures.work c.round.ensures.stays refl
+    answers_rounds _ _ _ _ c.head.new.self h.stays c.in-Round.rounds h.heads c.round.ensures.work c.round.ensures.stays refl
 
 pub returns-in_err-effect-in-Next-clause-answer : goal.returns-in_err-effect-in-Next-clause-answer
 returns-in_err-effect-in-Next-clause-answer g c =
@@ -78,7 +78,7 @@ pub returns-in-Repeats-clause-answer : goal.returns-in-Repeats-clause-answer
 returns-in-Repeats-clause-answer g c =
     let h = c.in-Next.ensures in
     let e = c.round-in-Repeats.ensures in
-    answers_repeats _ _ _ _ c.head.new.self h.stays _ c.in-Next.step h.heads c.in-Repeats.count c.in-Repeats.body (rw c.in-Repeats.is at c.in_ok-effect-in-Next.ensures.does) e.work e.stays
+    answers_repeats _ _ _ _ c.head.new.self h.stays _ c.in-Next.step h.heads c.in-Repeats.left c.in-Repeats.body (rw c.in-Repeats.is at c.in_ok-effect-in-Next.ensures.does) e.work e.stays
 
 pub returns-in-Makes-clause-answer : goal.returns-in-Makes-clause-answer
 returns-in-Makes-clause-answer g c =
