@@ -1,4 +1,4 @@
-// The names of a task's own words and pointers.
+// The names of a task's own words and pointers: two types, so that neither is taken for the other.
 ghost use Rattle.std.specs.Prelude.{◌<◌};
 
 // One of the words n0 to n3.

@@ -45,6 +45,7 @@ pub(crate) fn put_before<T: Copy + Numbered>(row: &mut Vec<T>, n: u8, x: T)
     insert(row, at, x);
 }
 
+#[tactic(auto, using(crate::proofs::Places::out_at))]
 pub(crate) fn take_out<T: Copy + Numbered>(row: &mut Vec<T>, n: u8)
     ensures items { row.new.items ≡ without T.Numbered.known n row.old.items }
     ensures capacity { vec_capacity row.new ≡ vec_capacity row.old }
@@ -55,6 +56,7 @@ pub(crate) fn take_out<T: Copy + Numbered>(row: &mut Vec<T>, n: u8)
 }
 
 // In the place of the first element numbered n.
+#[tactic(auto, using(crate::proofs::Places::set_at))]
 pub(crate) fn revise<T: Copy + Numbered>(row: &mut Vec<T>, n: u8, x: T)
     ensures items { row.new.items ≡ revised T.Numbered.known n x row.old.items }
     ensures capacity { vec_capacity row.new ≡ vec_capacity row.old }

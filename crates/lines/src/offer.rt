@@ -23,7 +23,7 @@ fn fill<'a>(
 {
     let mut len = 0;
     for n in order {
-        // Written before it is counted: the loop has no branch.
+        // Written before it is counted: with a branch for each task, as of `filter` or `push`, it was slower.
         row[len] = *n;
         len += (states[*n as usize].is_waiting() & clear[*n as usize]) as usize;
     }

@@ -68,6 +68,10 @@ pub(crate) fn refresh(queues: &Vec<Queue>, clear: &mut [bool; 256])
     }
 }
 
+// A loop for each change: one over a closure would say which references the closure was called with, and each caller
+// would have to show what that makes of the queues.
+
+#[tactic(auto, using(crate::proofs::Rounds::changed_none))]
 pub(crate) fn enter_all(queues: &mut Vec<Queue>, maker: u8, child: u8, ds: &[Declared])
     requires sized { length ds.now ≡ vec_len queues.old }
     requires room { (o : ℕ) → length (slice_index_or (queues_of queues.old.items) o []) < 64 }
@@ -79,6 +83,7 @@ pub(crate) fn enter_all(queues: &mut Vec<Queue>, maker: u8, child: u8, ds: &[Dec
     }
 }
 
+#[tactic(auto, using(crate::proofs::Rounds::changed_none))]
 pub(crate) fn redeclare_all(queues: &mut Vec<Queue>, n: u8, ds: &[Declared])
     requires sized { length ds.now ≡ vec_len queues.old }
     ensures items { (o : ℕ) → slice_index_or (queues_of queues.new.items) o [] ≡ redeclared n (slice_index_or ds.now o nothing) (slice_index_or (queues_of queues.old.items) o []) }
@@ -89,6 +94,7 @@ pub(crate) fn redeclare_all(queues: &mut Vec<Queue>, n: u8, ds: &[Declared])
     }
 }
 
+#[tactic(auto, using(crate::proofs::Rounds::changed_none))]
 pub(crate) fn leave_all(queues: &mut Vec<Queue>, n: u8)
     ensures items { (o : ℕ) → slice_index_or (queues_of queues.new.items) o [] ≡ left n (slice_index_or (queues_of queues.old.items) o []) }
     ensures len { vec_len queues.new ≡ vec_len queues.old }

@@ -39,6 +39,6 @@ impl<'a> Declares for &'a [Declared] {
     ghost each_object = { λ ds. refl };
 
     fn declarations(&self) -> &[Declared] {
-        self
+        *self
     }
 }

@@ -67,6 +67,7 @@ impl Line {
     }
 
     // The first task in line.
+    #[tactic(auto, using(crate::proofs::Standing::first_is))]
     pub fn first(&self) -> Option<u8>
         ensures { (t : ℕ → Task) → MatchOption result (line_of self.now t ≡ []) (λ n. (rest : List Model.Member) × (line_of self.now t ≡ Model.member n (status_of (state_of self.now n)) (t n) ∷ rest)) }
     {
@@ -74,6 +75,7 @@ impl Line {
     }
 
     // No task is unfinished, or the first in line is stuck.
+    #[tactic(auto, using(crate::proofs::Standing::settled_none))]
     pub fn is_settled(&self) -> bool
         ensures { (t : ℕ → Task) → result ≡ settled_line (line_of self.now t) }
     {

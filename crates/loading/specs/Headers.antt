@@ -22,6 +22,10 @@ use Rattle.loading.specs.Texts.{text_line, rest_of, text_number}
 abbrev pub worded : {A : Type 0} → List ℕ → (Seen → Result A WordFault) → Seen → Seen → Seen → Result A WordFault
 worded v f s t u = then (exact v s) (λ _. then (f t) (λ x. then (no_word u) (λ _. Ok x)))
 
+-- the words of line n by that form
+abbrev pub worded_form : {A : Type 0} → List ℕ → (Seen → Result A WordFault) → List (List ℕ) → ℕ → Result A WordFault
+worded_form v f ws n = worded v f (first ws n) (second ws n) (third ws n)
+
 abbrev pub kinds : List (List ℕ × KindName)
 kinds = (codes "tally", Kind.Tally) ∷ (codes "flags", Kind.Flags) ∷ []
 

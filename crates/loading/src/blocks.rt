@@ -1,6 +1,7 @@
 // Reads the blocks and statements of the lines section.
-ghost use Rattle.std.specs.Prelude.{◌≡◌, ℕ, ◌+◌, ◌<◌, length, OnOk};
+ghost use Rattle.std.specs.Prelude.{◌≡◌, ℕ, ◌+◌, ◌-◌, ◌<◌, length, IfErr, MatchResult, OnOk};
 ghost use Rattle.cards.specs.Trees.{statement_of};
+ghost use Rattle.loading.specs.declared.refusal.LineFault.TheVariants.{Misplaced, TooDeep};
 ghost use Rattle.loading.specs.Lines.{line_of};
 ghost use Rattle.loading.specs.Texts.{upcoming};
 ghost use Rattle.loading.specs.Blocks as Blocks;
@@ -26,72 +27,43 @@ pub enum Closer {
     Out,
 }
 
-// What a line does in a declaration section.
+// What a line of a declaration section declares.
 #[derive(Clone, Copy)]
-pub enum Mark {
-    More {
-        access: Access,
-        level: Level,
-        pointer: Pointer,
-    },
-    Close,
-    Wrong,
+pub struct Declared {
+    access: Access,
+    level: Level,
+    pointer: Pointer,
 }
 
-// A declaration in a section; a withdrawn one stands only inside `with`.
-fn declare(kind: SectionKind, access: Access, level: Level, pointer: Pointer) -> Mark
-    ensures { (l : ℕ) → mark_of result l ≡ Blocks.declared_in kind l access level pointer.n }
+// What line `number` of the text says in a declaration section: a declaration, or nothing where it ends the section.
+fn in_section(said: Line, kind: SectionKind, number: u32) -> Result<Option<Declared>, LineFault>
+    ensures mark { (l : ℕ) → mark_of result l ≡ mark (line_of said) kind l }
+    ensures fault { IfErr result (λ e. e ≡ Misplaced number) }
 {
-    match kind {
-        SectionKind::With => Mark::More {
-            access,
-            level,
-            pointer,
-        },
-        SectionKind::Task => match level {
-            Level::Absent => Mark::Wrong,
-            Level::Deferred => Mark::More {
+    match (said, kind) {
+        // A withdrawn declaration stands only inside `with`.
+        (
+            Line::Declare {
+                level: Level::Absent,
+                ..
+            },
+            SectionKind::Task,
+        ) => Err(LineFault::Misplaced { line: number }),
+        (
+            Line::Declare {
                 access,
                 level,
                 pointer,
             },
-            Level::Immediate => Mark::More {
-                access,
-                level,
-                pointer,
-            },
-        },
-    }
-}
-
-// A keyword in a section: `do` ends that of a `task`, `cont` that of a `with`.
-fn end_section(keyword: Keyword, kind: SectionKind) -> Mark
-    ensures { (l : ℕ) → mark_of result l ≡ Blocks.ends_section keyword kind }
-{
-    match keyword {
-        Keyword::Do => match kind {
-            SectionKind::Task => Mark::Close,
-            SectionKind::With => Mark::Wrong,
-        },
-        Keyword::Cont => match kind {
-            SectionKind::Task => Mark::Wrong,
-            SectionKind::With => Mark::Close,
-        },
-        _ => Mark::Wrong,
-    }
-}
-
-fn mark_line(line: Line, kind: SectionKind) -> Mark
-    ensures { (l : ℕ) → mark_of result l ≡ mark (line_of line) kind l }
-{
-    match line {
-        Line::Declare {
+            _,
+        ) => Ok(Some(Declared {
             access,
             level,
             pointer,
-        } => declare(kind, access, level, pointer),
-        Line::Keyword(keyword) => end_section(keyword, kind),
-        _ => Mark::Wrong,
+        })),
+        (Line::Keyword(Keyword::Do), SectionKind::Task)
+        | (Line::Keyword(Keyword::Cont), SectionKind::With) => Ok(None),
+        _ => Err(LineFault::Misplaced { line: number }),
     }
 }
 
@@ -104,22 +76,14 @@ fn read_section(
     ensures value { AnswerIs section_of result (read_section lines.old.header kind (section_of section) (upcoming lines.old) lines.old.line) lines.new }
     ensures forward { OnOk result (Forward lines.old lines.new) }
 {
-    let number = lines.number();
-    let line = lines.line;
-    let Some(said) = lines.next()? else {
-        return Err(LoadRefusal::Line(LineFault::Open { line: number }));
-    };
-    match mark_line(said, kind) {
-        Mark::More {
-            access,
-            level,
-            pointer,
-        } => {
-            section.push(line, access, level, pointer)?;
-            read_section(lines, kind, section)
-        }
-        Mark::Close => Ok(section),
-        Mark::Wrong => Err(LoadRefusal::Line(LineFault::Misplaced { line: number })),
+    loop {
+        let number = lines.number();
+        let line = lines.line;
+        let said = lines.next()?.ok_or(LineFault::Open { line: number })?;
+        let Some(declared) = in_section(said, kind, number)? else {
+            return Ok(section);
+        };
+        section.push(line, declared.access, declared.level, declared.pointer)?;
     }
 }
 
@@ -128,11 +92,8 @@ fn close_block(said: Line, line: u32) -> Option<Closer>
     ensures { result ≡ closer (line_of said) line }
 {
     match said {
-        Line::Keyword(keyword) => match keyword {
-            Keyword::End => Some(Closer::End { line }),
-            Keyword::Else => Some(Closer::Else { line }),
-            _ => None,
-        },
+        Line::Keyword(Keyword::End) => Some(Closer::End { line }),
+        Line::Keyword(Keyword::Else) => Some(Closer::Else { line }),
         _ => None,
     }
 }
@@ -142,10 +103,17 @@ fn ended(closer: Closer, next: u32) -> Result<(), LineFault>
     ensures { result ≡ Blocks.ended closer next }
 {
     match closer {
-        Closer::End { line: _ } => Ok(()),
+        Closer::End { .. } => Ok(()),
         Closer::Else { line } => Err(LineFault::Misplaced { line }),
         Closer::Out => Err(LineFault::Open { line: next }),
     }
+}
+
+// The depth that is left inside a block.
+fn inner_depth(depth: u8, line: u32) -> Result<u8, LineFault>
+    ensures { MatchResult result (λ d. (0 < depth) × (d ≡ depth - 1)) (λ e. (depth ≡ 0) × (e ≡ TooDeep line)) }
+{
+    depth.checked_sub(1).ok_or(LineFault::TooDeep { line })
 }
 
 // Reads a block and what ends it; blocks below it may nest `depth` deep.
@@ -205,12 +173,10 @@ fn read_statement(
         Line::Write { pointer, word } => Ok(Statement::Write { pointer, word }),
         Line::Join { pointer, word } => Ok(Statement::Join { pointer, word }),
         Line::If { left, right } => {
-            if depth == 0 {
-                return Err(LoadRefusal::Line(LineFault::TooDeep { line: number }));
-            }
-            let (first, closer) = read_block(heap, lines, depth - 1)?;
-            if let Closer::Else { line: _ } = closer {
-                let (second, closer) = read_block(heap, lines, depth - 1)?;
+            let depth = inner_depth(depth, number)?;
+            let (first, closer) = read_block(heap, lines, depth)?;
+            if let Closer::Else { .. } = closer {
+                let (second, closer) = read_block(heap, lines, depth)?;
                 ended(closer, lines.number())?;
                 return Ok(Statement::IfElse {
                     left,
@@ -223,33 +189,24 @@ fn read_statement(
             Ok(Statement::If { left, right, first })
         }
         Line::Repeat { count } => {
-            if depth == 0 {
-                return Err(LoadRefusal::Line(LineFault::TooDeep { line: number }));
-            }
-            let (body, closer) = read_block(heap, lines, depth - 1)?;
+            let depth = inner_depth(depth, number)?;
+            let (body, closer) = read_block(heap, lines, depth)?;
             ended(closer, lines.number())?;
             Ok(Statement::Repeat { count, body })
         }
-        Line::Declare {
-            access: _,
-            level: _,
-            pointer: _,
-        } => Err(LoadRefusal::Line(LineFault::Misplaced { line: number })),
-        Line::Keyword(keyword) => match keyword {
-            Keyword::Task => {
-                if depth == 0 {
-                    return Err(LoadRefusal::Line(LineFault::TooDeep { line: number }));
-                }
-                let section = read_section(lines, SectionKind::Task, Section::new(heap))?;
-                let (body, closer) = read_block(heap, lines, depth - 1)?;
-                ended(closer, lines.number())?;
-                Ok(Statement::Task { section, body })
-            }
-            Keyword::With => {
-                let section = read_section(lines, SectionKind::With, Section::new(heap))?;
-                Ok(Statement::With { section })
-            }
-            _ => Err(LoadRefusal::Line(LineFault::Misplaced { line: number })),
-        },
+        Line::Keyword(Keyword::Task) => {
+            let depth = inner_depth(depth, number)?;
+            let section = read_section(lines, SectionKind::Task, Section::new(heap))?;
+            let (body, closer) = read_block(heap, lines, depth)?;
+            ended(closer, lines.number())?;
+            Ok(Statement::Task { section, body })
+        }
+        Line::Keyword(Keyword::With) => {
+            let section = read_section(lines, SectionKind::With, Section::new(heap))?;
+            Ok(Statement::With { section })
+        }
+        Line::Declare { .. } | Line::Keyword(_) => {
+            Err(LoadRefusal::Line(LineFault::Misplaced { line: number }))
+        }
     }
 }

@@ -11,6 +11,7 @@ mod line;
 mod read_line;
 mod refusal;
 mod slot;
+mod tables;
 mod tell;
 mod texts;
 

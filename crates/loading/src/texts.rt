@@ -1,6 +1,7 @@
 // Takes the lines of a text one by one.
-ghost use Rattle.std.specs.Prelude.{◌≡◌};
+ghost use Rattle.std.specs.Prelude.{◌≡◌, ◌≤◌};
 ghost use Rattle.loading.specs.Texts.{text_number, Takes, Nexts};
+ghost use Rattle.loading.specs.Loading.{Begins};
 
 use crate::cursor::Cursor;
 use crate::line::Line;
@@ -17,10 +18,11 @@ impl<'a> Cursor<'a> {
     }
 
     // The next line's bytes.
+    #[tactic(auto, using(crate::proofs::Sections::after_shorter), unfolding(crate::specs::Texts::text_line))]
     pub(crate) fn take_line(&mut self) -> Result<&'a [u8], LineFault>
         ensures { Takes result self.old self.new }
     {
-        let line = self.header + self.line;
+        let line = self.number();
         if self.rest.is_empty() {
             return Err(LineFault::Missing { line });
         }
@@ -36,7 +38,7 @@ impl<'a> Cursor<'a> {
     pub(crate) fn next(&mut self) -> Result<Option<Line>, LineFault>
         ensures { Nexts result self.old self.new }
     {
-        let line = self.header + self.line;
+        let line = self.number();
         if self.left == 0 {
             if self.rest.is_empty() {
                 return Ok(None);
@@ -47,5 +49,19 @@ impl<'a> Cursor<'a> {
         self.left -= 1;
         let said = read_line(bytes, line)?;
         Ok(Some(said))
+    }
+
+    // The cursor at the start of the lines section, after the header's lines.
+    pub(crate) fn begin_section(self, left: u16, objects: u8) -> Cursor<'a>
+        requires { 1 ≤ text_number self }
+        ensures { Begins self.entry left objects result }
+    {
+        Cursor {
+            rest: self.rest,
+            header: self.number() - 1,
+            line: 1,
+            left: u32::from(left),
+            objects,
+        }
     }
 }

@@ -64,30 +64,30 @@ invariant_of-self g c =
       flags = c.refresh.ensures;
     }
 
-pub returns : goal.returns
-returns g c =
-    let f = (goal.at.returns g c).After-refresh in
+pub returns-clause-line : goal.returns-clause-line
+returns-clause-line g c =
+    let f = (goal.at.returns-clause-line g c).After-refresh in
     let s = c.args.self.now in
     let m = c.mark.new.self in
-    let r = c.declarations.result.now in
     let n = m.made in
     let ns = vec_items s.order in
-    let qs = queues_of (vec_items c.enter_all.new.queues) in
-    let wide : length r ≡ length (queues_of (vec_items m.queues)) = omega (arith, c.requires.sized, ap length c.declarations.ensures, g.met.D.Declares.each_object c.args.child, c.mark.ensures.sized.0, m.queues.ok.0, length_queues (vec_items m.queues)) in
     let there : absent itself c.args.maker ns ≡ false = s.unfinished c.args.maker ∙ c.requires.live in
     let fresh : absent itself n ns ≡ true = ap (λ (k : ℕ). absent itself k ns) c.mark.ensures.sized.1 ∙ below_absent s.made ns s.known in
     let in_n : c.args.maker < length s.states = omega (arith, s.numbers) in
     let in_c : n < length s.states = omega (arith, s.numbers, few g f) in
-    record {
-      number = c.mark.ensures.sized.1;
-      line = λ t u but.
-          ap (members_at (set m.states n Waiting) u) (c.put_before.ensures.items ∙ ap (λ v. put_before itself c.args.maker n (vec_items v)) c.mark.ensures.kept.0)
-          ∙ members_entered s.states t u ns s.once c.args.maker n but (λ e. omega (arith, e, c.mark.ensures.sized.1, there_below s.made c.args.maker ns s.known there)) there fresh in_n in_c (set m.states n Waiting)
-          (ap (λ (l : List State). set l n Waiting) (c.mark.ensures.states ∙ cond-false (is_finished (state_at s.states c.args.maker)) s.states (set s.states c.args.maker Waiting) c.requires.live));
-      tells = λ t u but same is tells.
-          telling_entered (holds m) c.args.maker (few g f) r (narrower g f) qs (long g f) c.enter_all.ensures.items t u wide
-          (λ k ne. ⊎_elim (λ e. ap (λ (j : ℕ). (u j).declared) e ∙ same ∙ ap (λ (j : ℕ). (t j).declared) (sym e)) (λ g. ap (λ (x : Task). x.declared) (but k g ne)) (cases_eq k c.args.maker))
-          (is ∙ sym c.declarations.ensures) (c.mark.ensures.tells t t (λ k ne. refl) refl tells);
-      objects = c.enter_all.ensures.len ∙ c.mark.ensures.sized.0;
-      made = ap (λ (k : ℕ). k + 1) c.mark.ensures.sized.1;
-    }
+    λ t u but.
+    ap (members_at (set m.states n Waiting) u) (c.put_before.ensures.items ∙ ap (λ v. put_before itself c.args.maker n (vec_items v)) c.mark.ensures.kept.0)
+    ∙ members_entered s.states t u ns s.once c.args.maker n but (λ e. omega (arith, e, c.mark.ensures.sized.1, there_below s.made c.args.maker ns s.known there)) there fresh in_n in_c (set m.states n Waiting)
+    (ap (λ (l : List State). set l n Waiting) (c.mark.ensures.states ∙ cond-false (is_finished (state_at s.states c.args.maker)) s.states (set s.states c.args.maker Waiting) c.requires.live))
+
+pub returns-clause-tells : goal.returns-clause-tells
+returns-clause-tells g c =
+    let f = (goal.at.returns-clause-tells g c).After-refresh in
+    let m = c.mark.new.self in
+    let r = c.declarations.result.now in
+    let qs = queues_of (vec_items c.enter_all.new.queues) in
+    let wide : length r ≡ length (queues_of (vec_items m.queues)) = omega (arith, c.requires.sized, ap length c.declarations.ensures, g.met.D.Declares.each_object c.args.child, c.mark.ensures.sized.0, m.queues.ok.0, length_queues (vec_items m.queues)) in
+    λ t u but same is tells.
+    telling_entered (holds m) c.args.maker (few g f) r (narrower g f) qs (long g f) c.enter_all.ensures.items t u wide
+    (λ k ne. ⊎_elim (λ e. ap (λ (j : ℕ). (u j).declared) e ∙ same ∙ ap (λ (j : ℕ). (t j).declared) (sym e)) (λ g. ap (λ (x : Task). x.declared) (but k g ne)) (cases_eq k c.args.maker))
+    (is ∙ sym c.declarations.ensures) (c.mark.ensures.tells t t (λ k ne. refl) refl tells)

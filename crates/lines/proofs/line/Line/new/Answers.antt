@@ -1,4 +1,4 @@
-use Rattle.std.proofs.Common.{◌≡◌, ℕ, List, [], ◌∷◌, ◌++◌, length, get_or, vec_items, sym, refl, ap, ◌∙◌, subst, arith}
+use Rattle.std.proofs.Common.{◌≡◌, ℕ, List, [], ◌∷◌, ◌++◌, length, get_or, vec_items, sym, ap, ◌∙◌, subst, arith}
 use Rattle.lines.specs.Stored.{queues_of, members_at}
 use Rattle.lines.proofs.Stores.{length_queues, getD_empty}
 use Rattle.lines.proofs.Queued.{queued_stored}
@@ -43,14 +43,15 @@ invariant_of-result g c =
       flags = c.refresh.ensures;
     }
 
-pub returns : goal.returns
-returns g c =
-    let f = (goal.at.returns g c).After-refresh in
+pub returns-clause-line : goal.returns-clause-line
+returns-clause-line g c =
+    let f = (goal.at.returns-clause-line g c).After-refresh in
+    λ t. ap (members_at first_states t) (items g f) ∙ line_new t
+
+pub returns-clause-tells : goal.returns-clause-tells
+returns-clause-tells g c =
+    let f = (goal.at.returns-clause-tells g c).After-refresh in
     let r = c.declarations-declared.result.now in
     let v = c.enter_all.new.queues in
     let wide : length r ≡ length (queues_of (vec_items v)) = omega (arith, c.enter_all.ensures.len, c.in_ok-queues.ensures.0, v.ok.0, length_queues (vec_items v)) in
-    record {
-      line = λ t. ap (members_at first_states t) (items g f) ∙ line_new t;
-      tells = λ t is. telling_new r (queues_of (vec_items c.in_ok-queues.queues)) (queues_of (vec_items v)) wide (empty g f) c.enter_all.ensures.items t (is ∙ sym c.declarations-declared.ensures);
-      sized = (c.enter_all.ensures.len ∙ c.in_ok-queues.ensures.0 ∙ ap length c.declarations-declared.ensures ∙ g.met.D.Declares.each_object c.args.main, refl);
-    }
+    λ t is. telling_new r (queues_of (vec_items c.in_ok-queues.queues)) (queues_of (vec_items v)) wide (empty g f) c.enter_all.ensures.items t (is ∙ sym c.declarations-declared.ensures)

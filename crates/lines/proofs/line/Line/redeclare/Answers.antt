@@ -44,15 +44,11 @@ invariant_of-self g c =
       flags = c.refresh.ensures;
     }
 
-pub returns : goal.returns
-returns g c =
-    let f = (goal.at.returns g c).After-refresh in
+pub returns-clause-tells : goal.returns-clause-tells
+returns-clause-tells g c =
+    let f = (goal.at.returns-clause-tells g c).After-refresh in
     let m = c.mark.new.self in
     let r = c.declarations.result.now in
     let qs = queues_of (vec_items c.redeclare_all.new.queues) in
     let wide : length r ≡ length (queues_of (vec_items m.queues)) = omega (arith, c.requires.sized, ap length c.declarations.ensures, g.met.D.Declares.each_object c.args.task, c.mark.ensures.sized.0, m.queues.ok.0, length_queues (vec_items m.queues)) in
-    record {
-      line = c.mark.ensures.line;
-      tells = λ t u but is tells. telling_redeclared (holds m) c.args.n r (narrower g f) qs (long g f) c.redeclare_all.ensures.items t u wide but (is ∙ sym c.declarations.ensures) (c.mark.ensures.tells t t (λ k ne. refl) refl tells);
-      sized = (c.redeclare_all.ensures.len ∙ c.mark.ensures.sized.0, c.mark.ensures.sized.1);
-    }
+    λ t u but is tells. telling_redeclared (holds m) c.args.n r (narrower g f) qs (long g f) c.redeclare_all.ensures.items t u wide but (is ∙ sym c.declarations.ensures) (c.mark.ensures.tells t t (λ k ne. refl) refl tells)

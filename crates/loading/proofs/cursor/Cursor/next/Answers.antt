@@ -22,10 +22,10 @@ pub returns-in_err-said : goal.returns-in_err-said
 unfolding upcoming
 returns-in_err-said c =
     let p = err_from_is_err_and c.from_residual-in_err-said.result c.from_residual-in_err-said.ensures.1 in
-    rw (p.1, p.2) (section_unfit _ _ _ c.if-self-eq0.false _ c.in_ok-bytes.ensures.0 _ c.in_err-said.ensures)
+    rw (p.1, p.2) (section_unfit _ _ _ c.if-self-eq0.false _ c.in_ok-bytes.ensures.0 _ (rw c.number-line.ensures at c.in_err-said.ensures))
 
 pub returns : goal.returns
 unfolding upcoming
 returns c =
     let moved = c.in_ok-bytes.ensures.1 in
-    (section_says _ _ _ c.if-self-eq0.false _ c.in_ok-bytes.ensures.0 _ _ _ _ c.in_ok-said.ensures (omega (arith, moved.left)) moved.rest (omega (arith, moved.header, moved.line)), moved.line, moved.header, moved.objects)
+    (section_says _ _ _ c.if-self-eq0.false _ c.in_ok-bytes.ensures.0 _ _ _ _ (rw c.number-line.ensures at c.in_ok-said.ensures) (omega (arith, moved.left)) moved.rest (omega (arith, moved.header, moved.line)), moved.line, moved.header, moved.objects)
