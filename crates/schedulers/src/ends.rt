@@ -1,4 +1,5 @@
 // The schedulers that choose an end of the list. They have one state.
+// Two impls: what differs is the choice itself, so one type for both would take its code and its definition as parameters.
 ghost use Rattle.std.specs.Prelude.{◌≡◌};
 ghost use Rattle.schedulers.specs.Schedulers.{first, last};
 ghost use Rattle.std.proofs.Common.{rules};
