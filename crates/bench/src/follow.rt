@@ -27,7 +27,12 @@ pub(crate) fn follow(line: &mut Line, tasks: &Tasks, n: u8, progress: Result<Pro
 
 // The same for a task that waits. A step that changes no declarations leaves the line as it is; it tells whether
 // that is so.
-pub(crate) fn follow_waiting(line: &mut Line, tasks: &Tasks, n: u8, progress: Result<Progress, Fault>) -> bool
+pub(crate) fn follow_waiting(
+    line: &mut Line,
+    tasks: &Tasks,
+    n: u8,
+    progress: Result<Progress, Fault>,
+) -> bool
     requires fits { FitsLine line.old (tasks_of tasks.now) n progress }
     requires waits { state_of line.old n ≡ Waiting }
     ensures followed { Followed (tasks_of tasks.now) n progress line.old line.new }

@@ -1,4 +1,4 @@
-use Rattle.std.proofs.Common.{◌≡◌, ℕ, ◌+◌, List, [], ◌∷◌, length, Ok, Err, Result, sym, ap, ◌∙◌, subst, arith}
+use Rattle.std.proofs.Common.{◌≡◌, ℕ, ◌+◌, List, [], ◌∷◌, length, Ok, Result, sym, ap, ◌∙◌, subst, arith}
 use Rattle.working.specs.declared.declared.Declared.{Declared}
 use Rattle.working.specs.declared.fault.Fault.{Fault}
 use Rattle.working.specs.Tasks.{Task}

@@ -1,4 +1,4 @@
-use Rattle.std.proofs.Common.{◌≡◌, ℕ, ◌+◌, ◌<◌, true, false, List, length, get_or, is_ok, is_some, Some, sym, refl, ap, ◌∙◌, subst, arith}
+use Rattle.std.proofs.Common.{◌≡◌, ℕ, ◌+◌, ◌<◌, true, List, length, is_ok, refl, ap, ◌∙◌, subst, arith}
 use Rattle.std.specs.Int.{from_bool}
 use Rattle.working.specs.Tasks.{Task}
 use Rattle.runs.specs.Lines.{waiting, out}
@@ -15,7 +15,6 @@ use Rattle.lines.proofs.Offered.{offered_takes}
 use Rattle.lines.proofs.Quiet.{take_waits, take_live, take_made, take_found}
 use Rattle.bench.specs.Tasks.{task_at}
 use Rattle.bench.specs.Views.{bench_of}
-use Rattle.bench.specs.Ends.{AtWork}
 use Rattle.bench.proofs.Picks.{unsettled_offers, chosen_below}
 use Rattle.bench.proofs.Steps.{some_step, step_of, one_step, within_after, fits_line, still_told, still_numbered, still_sized, turn_steps}
 use Rattle.bench.proofs.Worked.{turned_is, turned_on, turned_run, turned_falls}
@@ -23,12 +22,9 @@ use Rattle.bench.proofs.bench.Bench.turn.Given as given
 use Rattle.bench.proofs.bench.Bench.turn.Goals.{After-choose-n, After-unwrap-progress, After-from}
 use Rattle.bench.proofs.bench.Bench.turn.Goals as goal
 
--- some task is offered
-offers_some : (b : Model.Bench) (ns : List ℕ) → ns ≡ offer b → settled b ≡ false → AtWork b → 0 < length ns
-offers_some b ns e u w = omega (arith, ap length e, unsettled_offers b u w.none_out)
-
 pub choose-n-requires : goal.choose-n-requires
-choose-n-requires g c = offers_some (bench_of c.args.self.now) c.args.offered.now c.requires.all c.requires.unsettled c.requires.at_work
+choose-n-requires g c =
+    omega (arith, ap length c.requires.all, unsettled_offers (bench_of c.args.self.now) c.requires.unsettled c.requires.at_work.none_out)
 
 module _ (g : given.Over) (c : After-choose-n g) where
   abbrev choice : List ℕ → ℕ
@@ -57,8 +53,8 @@ unwrap-progress-requires g c =
     some_step _ c.choose-n.result b.tasks c.step.new.self c.step.result (omega (arith, take_made b.line (at g f) c.choose-n.result b.told (can g f), b.numbered)) c.step.ensures
 
 -- the step, of the task that has the number
-stepped : (g : given.Over) (c : After-unwrap-progress g) → (t : Task) × StepOf (g.K.ValueKind.kind c.args.self.now.kind.now) (c.choose-n.result) t c.args.self.now.tasks c.unwrap-progress.result c.step.new.self
-stepped g c = step_of _ (c.choose-n.result) c.args.self.now.tasks c.step.new.self c.step.result c.unwrap-progress.result c.unwrap-progress.ensures c.step.ensures
+stepped : (g : given.Over) (c : After-unwrap-progress g) → (t : Task) × StepOf (g.K.ValueKind.kind c.args.self.now.kind.now) c.choose-n.result t c.args.self.now.tasks c.unwrap-progress.result c.step.new.self
+stepped g c = step_of _ c.choose-n.result c.args.self.now.tasks c.step.new.self c.step.result c.unwrap-progress.result c.unwrap-progress.ensures c.step.ensures
 
 pub follow_waiting-stays-requires : goal.follow_waiting-stays-requires
 follow_waiting-stays-requires g c =
@@ -74,7 +70,7 @@ module _ (g : given.Over) (c : After-from g) where
   abbrev placed : After-choose-n g
   placed = (goal.at.invariant_of-self g c).After-choose-n
 
-  abbrev h : (t : Task) × StepOf (g.K.ValueKind.kind c.args.self.now.kind.now) (c.choose-n.result) t c.args.self.now.tasks c.unwrap-progress.result c.step.new.self
+  abbrev h : (t : Task) × StepOf (g.K.ValueKind.kind c.args.self.now.kind.now) c.choose-n.result t c.args.self.now.tasks c.unwrap-progress.result c.step.new.self
   h = stepped g (goal.at.invariant_of-self g c).After-unwrap-progress
 
   abbrev came : Model.Bench
