@@ -1,5 +1,5 @@
 -- A sheet by what it was made of.
-use Rattle.std.proofs.Common.{◌≡◌, ℕ, List, take, IfOk, Some, Ok, Err, vec_items, Result, Vec, sym, ap, ◌∙◌, arith}
+use Rattle.std.proofs.Common.{◌≡◌, ℕ, List, IfOk, Some, Ok, Err, vec_items, Result, Vec, sym, ap, ◌∙◌}
 use Rattle.std.specs.declared.alloc.AllocError.{AllocError}
 use Rattle.std.specs.declared.alloc.Global.{Global}
 use Rattle.kinds.specs.Kinds.{Kind}
