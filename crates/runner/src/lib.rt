@@ -20,7 +20,7 @@ use schedulers::{CardOrder, Scheduler};
 use sheets::{LONGEST, fault_sheet, refused_sheet, run_sheet};
 use std::alloc::{AllocError, Global};
 pub use worked::worked_rows;
-use working::{Outcome, work_serially};
+use working::{Worked, work_serially};
 use written::load_card;
 
 // One bench is open at a time, so one run number will do.
@@ -32,18 +32,16 @@ pub fn serial_sheet<K: ValueKind>(
     kind: &K,
     card: &Card,
 ) -> Result<Vec<u8>, AllocError>
-    ensures { IfOk result (λ v. v.items ≡ sheet_of (K.ValueKind.kind kind.now) (card_of card.now)) }
+    ensures { IfOk result (λ v. v.items ≡ sheet_of (K.kind kind.now) (card_of card.now)) }
 {
-    let worked = work_serially(heap, kind, card)?;
-    let made = worked.made;
-    let steps = worked.steps;
-    match worked.outcome {
-        Outcome::Words(words) => run_sheet(heap, kind, made, steps, &words),
-        Outcome::Fault {
-            kind: fault,
-            line,
-            place,
-        } => { fault_sheet(heap, fault, line, &place.ranks[0..place.depth as usize]) }
+    let Worked {
+        outcome,
+        steps,
+        made,
+    } = work_serially(heap, kind, card)?;
+    match outcome {
+        Ok(words) => run_sheet(heap, kind, made, steps, &words),
+        Err(ended) => fault_sheet(heap, ended.fault, ended.place.ranks()),
     }
 }
 
@@ -54,7 +52,7 @@ pub fn bench_sheet<'c, K: ValueKind, S: Scheduler>(
     card: &'c Card,
     scheduler: &mut S,
 ) -> Result<Vec<u8>, AllocError>
-    ensures { IfOk result (λ v. v.items ≡ sheet_of (K.ValueKind.kind kind.now) (card_of card.now)) }
+    ensures { IfOk result (λ v. v.items ≡ sheet_of (K.kind kind.now) (card_of card.now)) }
 {
     let mut sheet = vec![in heap; 0; LONGEST]?;
     let (mut bench, going) = Bench::open(heap, kind, card, RUN)?;
@@ -80,6 +78,7 @@ pub fn ordered_sheet(heap: Global, card: &Card) -> Result<Vec<u8>, AllocError>
     ensures { IfOk result (λ v. v.items ≡ Texts.card_sheet (card_of card.now)) }
 {
     let mut order = CardOrder::from(card.order());
+    // The arms of `card_sheet` again: each has a type of its own, and no closure takes a value of any type.
     match card.kind() {
         KindName::Tally => bench_sheet(heap, &Tally, card, &mut order),
         KindName::Flags => bench_sheet(heap, &Flags, card, &mut order),
@@ -93,10 +92,10 @@ pub fn text_sheet(heap: Global, text: &[u8]) -> Result<Vec<u8>, AllocError>
     let mut slot = Slot::new(heap)?;
     match load_card(&mut slot, heap, text) {
         Ok(()) => ordered_sheet(heap, slot.card()),
-        Err(refusal) => match refusal.told() {
-            Some(t) => refused_sheet(heap, t.number, t.line, t.word),
-            None => Err(AllocError),
-        },
+        Err(refusal) => {
+            let t = refusal.told().ok_or(AllocError)?;
+            refused_sheet(heap, t.number, t.line, t.word)
+        }
     }
 }
 
