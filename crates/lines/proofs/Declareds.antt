@@ -35,8 +35,8 @@ declared_by_same qs qs' n e h = declared_by_is qs' n (declared_by qs n) (length_
 
 pub not_held : (l : Level) → held l ≡ false → l ≡ Absent
 not_held Absent e = refl
-not_held Deferred e = let z : ◌≡◌ {A = ℕ} 0 1 = cc in absurd (omega arith)
-not_held Immediate e = let z : ◌≡◌ {A = ℕ} 0 1 = cc in absurd (omega arith)
+not_held Deferred e = cc
+not_held Immediate e = cc
 
 declares_none : (d : Declared) → declares d ≡ false → d ≡ nothing
 unfolding declares
