@@ -1,5 +1,5 @@
 -- The tests say that two lists are equal.
-use Rattle.std.proofs.Common.{◌≡◌, ℕ, true, ◌&&◌, eqb, List, [], ◌∷◌, sym, refl, ap, ◌∙◌, ap₂, arith}
+use Rattle.std.proofs.Common.{◌≡◌, true, ◌&&◌, eqb, List, [], ◌∷◌, sym, refl, ap, ◌∙◌, ap₂, arith}
 use Rattle.std.proofs.lemmas.Bool.{and_parts, and_from, eqb-true, eq-eqb}
 use Rattle.cards.specs.declared.lines.Level.{Level}
 use Rattle.cards.specs.declared.lines.Level.TheVariants.{Absent, Deferred, Immediate}
