@@ -26,6 +26,7 @@ fn rounds(count: u8, once: u32, cap: u32) -> u32
 }
 
 impl Extent {
+    // Written out: `Default` is not derived for a struct with ghost fields.
     fn nothing() -> Extent
         ensures { Measures 0 0 0 0 0 result }
     {

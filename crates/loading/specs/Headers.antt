@@ -14,7 +14,7 @@ use Rattle.loading.specs.declared.refusal.LineFault.TheVariants.{Word}
 use Rattle.loading.specs.declared.refusal.LoadRefusal.{LoadRefusal}
 use Rattle.loading.specs.declared.refusal.LoadRefusal.TheVariants as R
 use Rattle.loading.specs.declared.cursor.Cursor.{Cursor}
-use Rattle.loading.specs.declared.header.Header as Rust
+use Rattle.loading.specs.declared.head.Header as Rust
 use Rattle.loading.specs.Lines.{then, find}
 use Rattle.loading.specs.Texts.{text_line, rest_of, text_number}
 

@@ -1,5 +1,5 @@
 // Reads the lines before the lines section.
-ghost use Rattle.std.specs.Prelude.{◌≡◌, ◌+◌, ◌≤◌, [], Ok, Result, IfOk, vec_len, OnOk};
+ghost use Rattle.std.specs.Prelude.{◌≡◌, ◌+◌, [], Ok, Result, IfOk, vec_len, OnOk};
 ghost use Rattle.words.specs.declared.fault.WordFault.{WordFault};
 ghost use Rattle.words.specs.declared.tokens.Token.{Token};
 ghost use Rattle.words.specs.Tokens.{Seen, seen};
@@ -8,20 +8,11 @@ ghost use Rattle.loading.specs.Headers as Headers;
 ghost use Rattle.loading.specs.Headers.{literal_form, literals_after, worded_form, HeaderLine, HeaderIs, literals_of, header_of};
 
 use crate::cursor::Cursor;
+use crate::head::Header;
 use crate::refusal::{LineFault, LoadRefusal};
 use crate::tables::{KINDS, ORDERS, named};
-use cards::{KindName, OrderName};
 use std::alloc::Global;
 use words::{Token, WordFault, tokenize};
-
-// What the header says.
-#[derive(Drop)]
-pub struct Header {
-    pub kind: KindName,
-    pub order: OrderName,
-    pub words: Vec<i16>,
-    pub lines: u16,
-}
 
 // The next line: a fixed word, one word more as `read` reads it, and no other.
 fn worded_line<T: Drop, F: FnOnce(Token<'_>) -> Result<T, WordFault>>(
@@ -71,15 +62,13 @@ pub(crate) fn read_header(heap: Global, lines: &mut Cursor<'_>) -> Result<Header
     requires { text_number lines.old ≡ 1 }
     ensures value { HeaderIs header_of result (Headers.read_header (rest_of lines.old)) lines.new }
     ensures number { IfOk result (λ h. text_number lines.new ≡ 6 + vec_len h.words) }
-    ensures objects { IfOk result (λ h. (1 ≤ vec_len h.words) × (vec_len h.words ≤ 16)) }
-    ensures lines { IfOk result (λ h. h.lines ≤ 256) }
 {
-    worded_line(lines, b"bench", |t: Token<'_>| t.exactly(b"2"))?;
-    let kind = worded_line(lines, b"kind", |t: Token<'_>| named(t, &KINDS))?;
-    let order = worded_line(lines, b"order", |t: Token<'_>| named(t, &ORDERS))?;
-    let objects = worded_line(lines, b"objects", |t: Token<'_>| t.number(1, 16))?;
+    worded_line(lines, b"bench", |word| word.exactly(b"2"))?;
+    let kind = worded_line(lines, b"kind", |word| named(word, &KINDS))?;
+    let order = worded_line(lines, b"order", |word| named(word, &ORDERS))?;
+    let objects = worded_line(lines, b"objects", |word| word.number(1, 16))?;
     let words = read_literals(heap, lines, objects)?;
-    let count = worded_line(lines, b"lines", |t: Token<'_>| t.number(0, 256))?;
+    let count = worded_line(lines, b"lines", |word| word.number(0, 256))?;
     Ok(Header {
         kind,
         order,

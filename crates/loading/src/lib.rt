@@ -6,6 +6,7 @@
 
 mod blocks;
 mod cursor;
+mod head;
 mod header;
 mod line;
 mod read_line;

@@ -88,6 +88,7 @@ fn read_operands(verb: Verb, t: Tokens<'_>) -> Result<Line, WordFault>
 }
 
 // What the words of a line say; `line` is its number in the text.
+#[tactic(auto, unfolding(crate::specs::Lines::line_said))]
 pub(crate) fn read_line(bytes: &[u8], line: u32) -> Result<Line, WordFault>
     ensures { said result ≡ line_said (words bytes.now) line }
 {

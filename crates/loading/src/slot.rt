@@ -1,15 +1,16 @@
 // A place for a card.
-ghost use Rattle.std.specs.Prelude.{◌≡◌, ◌+◌, ◌≤◌, length, IfOk};
+ghost use Rattle.std.specs.Prelude.{◌≡◌, ◌+◌, length, IfOk};
 ghost use Rattle.cards.specs.Cards.{card_of, blank};
 ghost use Rattle.cards.specs.Trees.{block_of};
 ghost use Rattle.loading.specs.Texts.{rest_of, text_number};
 ghost use Rattle.loading.specs.Headers.{header_of};
-ghost use Rattle.loading.specs.Loading.{card, bounded, section_ended, BodyIs, FitsCard, reading, ReadingIs, held_card, Loads};
+ghost use Rattle.loading.specs.Loading.{card, bounded, BodyIs, FitsCard, reading, ReadingIs, held_card, Loads};
 
-use crate::blocks::{Closer, read_block};
+use crate::blocks::read_block;
 use crate::cursor::Cursor;
-use crate::header::{Header, read_header};
-use crate::refusal::{LineFault, LoadRefusal};
+use crate::head::Header;
+use crate::header::read_header;
+use crate::refusal::LoadRefusal;
 use cards::{Block, Card, Limit};
 use std::alloc::{AllocError, Global};
 
@@ -25,25 +26,14 @@ pub struct Slot {
     card: Card,
 }
 
-// Main's block is ended by the end of the section.
-fn ended_section(closer: Closer) -> Result<(), LineFault>
-    ensures { result ≡ section_ended closer }
-{
-    match closer {
-        Closer::End { line } | Closer::Else { line } => Err(LineFault::Misplaced { line }),
-        Closer::Out => Ok(()),
-    }
-}
-
 // Reads the lines section after the header.
 fn read_body(heap: Global, lines: Cursor<'_>, header: &Header) -> Result<Block, LoadRefusal>
-    requires number { text_number lines ≡ 6 + length (header_of header.now).words }
-    requires objects { length (header_of header.now).words ≤ 16 }
+    requires { text_number lines ≡ 6 + length (header_of header.now).words }
     ensures { BodyIs result (header_of header.now) (rest_of lines.entry) }
 {
-    let mut section = lines.begin_section(header.lines, header.words.len() as u8);
+    let mut section = lines.begin_section(header);
     let (body, closer) = read_block(heap, &mut section, MOST_DEPTH)?;
-    ended_section(closer)?;
+    closer.ended_section()?;
     Ok(body)
 }
 

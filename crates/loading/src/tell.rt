@@ -1,17 +1,9 @@
 // A refusal's number, line and word.
 ghost use Rattle.std.specs.Prelude.{◌≡◌};
-ghost use Rattle.loading.specs.Refusals.{tell, place_of, line_told, told};
+ghost use Rattle.loading.specs.Refusals.{tell, line_told, told};
 
 use crate::refusal::{LineFault, LoadRefusal, Told};
-use words::{Place, WordFault};
-
-fn place(fault: WordFault) -> Place
-    ensures { result ≡ place_of fault }
-{
-    match fault {
-        WordFault::Unfit(place) | WordFault::Missing(place) | WordFault::Surplus(place) => place,
-    }
-}
+use words::WordFault;
 
 impl Told {
     // A fault of a whole line, or of the whole text at line 0.
@@ -26,19 +18,18 @@ impl Told {
     }
 }
 
-impl LineFault {
-    fn told(self) -> Told
-        ensures { result ≡ line_told self }
-    {
-        match self {
-            LineFault::Word(fault) => {
-                let at = place(fault);
-                Told {
-                    number: 2,
-                    line: at.line,
-                    word: at.word,
-                }
-            }
+impl From<LineFault> for Told {
+    ghost from_gives = { λ f t. t ≡ line_told f };
+
+    fn from(fault: LineFault) -> Told {
+        match fault {
+            LineFault::Word(
+                WordFault::Unfit(at) | WordFault::Missing(at) | WordFault::Surplus(at),
+            ) => Told {
+                number: 2,
+                line: at.line,
+                word: at.word,
+            },
             LineFault::Missing { line }
             | LineFault::Unended { line }
             | LineFault::Surplus { line } => Told::of_line(2, line),
@@ -57,7 +48,7 @@ impl LoadRefusal {
     {
         match self {
             LoadRefusal::TooLong => Some(Told::of_line(1, 0)),
-            LoadRefusal::Line(fault) => Some(fault.told()),
+            LoadRefusal::Line(fault) => Some(Told::from(fault)),
             LoadRefusal::TooManyTasks => Some(Told::of_line(5, 0)),
             LoadRefusal::TooManySteps => Some(Told::of_line(6, 0)),
             LoadRefusal::Memory => None,

@@ -46,6 +46,8 @@ impl<'a> Token<'a> {
         self.read(read_literal)
     }
 
+    // The readings of a name differ in the variant alone, and no parameter stands for a variant.
+
     // One of n0 to n3.
     pub fn local(self) -> Result<Local, WordFault>
         ensures { local_of result ≡ local_word (seen self.entry) }

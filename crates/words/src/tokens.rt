@@ -42,6 +42,7 @@ pub struct Tokens<'a> {
 }
 
 // The next word of what is left of a line, and what is then left.
+#[tactic(auto, using(crate::proofs::Splits::words_has, crate::proofs::Splits::words_none))]
 fn split<'a>(rest: Option<&'a [u8]>, place: Place) -> (Token<'a>, Option<&'a [u8]>)
     ensures token { seen result.0 ≡ first_of (left rest.entry) place }
     ensures rest { left result.1 ≡ others (left rest.entry) }
