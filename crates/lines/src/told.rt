@@ -1,6 +1,6 @@
 // How the line is told what a task declares on each object: by its record, or by the declarations themselves.
-ghost use Rattle.std.specs.Prelude.{◌≡◌, ℕ, List, length, refl};
-ghost use Rattle.std.proofs.Common.{arith};
+ghost use Rattle.std.specs.Prelude.{◌≡◌, ℕ, ◌≤◌, List, length, refl};
+ghost use Rattle.std.proofs.Common.{sym, subst};
 ghost use Rattle.std.proofs.lemmas.List.{length-take-le};
 ghost use Rattle.working.specs.declared.declared.Declared.{Declared};
 ghost use Rattle.working.specs.Records.{declared_of};
@@ -24,7 +24,7 @@ impl<'a> Declares for &'a Record {
 
     ghost objects = { λ r. r.now.objects };
 
-    ghost each_object = { λ r. length-take-le r.now.objects r.now.declared (Prim.omega (arith, r.now.few, r.now.wide)) };
+    ghost each_object = { λ r. length-take-le r.now.objects r.now.declared (subst (λ (n : ℕ). r.now.objects ≤ n) (sym r.now.wide) r.now.few) };
 
     fn declarations(&self) -> &[Declared] {
         &self.declared[..self.objects as usize]

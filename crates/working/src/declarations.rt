@@ -56,6 +56,7 @@ fn amend(pointers: &[u8; 4], ds: &mut [Declared], section: &Section) -> Result<(
 
 // What `task` makes of a child's declarations by its maker's, up to the first that is refused. A loop of its own:
 // `amend` asks the declarations that it changes, so no parameter stands for what both ask.
+#[tactic(auto, unfolding(crate::specs::Requests::endowed))]
 fn endow(
     pointers: &[u8; 4],
     maker: &[Declared],

@@ -41,6 +41,7 @@ impl Record {
 }
 
 // The words that the objects start with.
+#[tactic(auto, unfolding(crate::specs::Tasks::starting_words))]
 pub fn starting_words<K: ValueKind>(
     heap: Global,
     kind: &K,

@@ -29,6 +29,8 @@ impl<'c> Task<'c> {
         ensures task { model_of result ≡ fresh_task own fresh.entry }
         ensures own { result.own ≡ own }
         ensures work { work_of result.work ≡ block_of fresh.entry.body.now }
+        ensures place { result.work.place ≡ fresh.entry.place }
+        ensures children { result.work.children ≡ 0 }
     {
         Task {
             own,

@@ -1,4 +1,4 @@
-use Rattle.std.proofs.Common.{◌≡◌, List, length, take, replicate, sym, refl, ap, ◌∙◌, rules}
+use Rattle.std.proofs.Common.{◌≡◌, List, take, replicate, sym, refl, ap, ◌∙◌, rules}
 use Rattle.std.proofs.lemmas.List.{take_at}
 use Rattle.std.proofs.lemmas.Result.{err_from_is_err_and}
 use Rattle.cards.specs.declared.lines.Declaration.{Declaration}
@@ -6,7 +6,7 @@ use Rattle.working.specs.declared.record.Record.{Record}
 use Rattle.working.specs.Tasks.{Declared, nothing}
 use Rattle.working.specs.Requests.{accepted, endowed}
 use Rattle.working.specs.Records.{declared_of, child_section}
-use Rattle.working.proofs.Sections.{take_nothing, length_filled}
+use Rattle.working.proofs.Sections.{take_nothing}
 use Rattle.working.proofs.record.Record.child.Goals as goal
 
 -- what is endowed, where ms are the declarations of the maker
@@ -23,9 +23,3 @@ returns-in_err-endow c =
 pub returns : goal.returns
 returns c =
     (section_by c.args.self.now _ _ c.declared.ensures ∙ c.in_ok-endow.ensures ∙ ap accepted (sym (take_at c.endow.new.ds _ c.args.self.now.objects (search rules))), refl, refl, refl)
-
-pub invariant_of-result : goal.invariant_of-result
-invariant_of-result c =
-    let w = c.args.self.now in
-    let k : length c.endow.new.ds ≡ w.objects = search rules in
-    record { few = w.few; wide = length_filled c.endow.new.ds (replicate 16 nothing) w.objects k w.few refl }

@@ -44,14 +44,11 @@ invariant_of-self-else-rounds-eq0 c =
       few = omega (arith, c.requires.few, ap (λ (b : Block). task_bound (x before b)) (stack_push _ w.frames.items f p.items end), fewer q.line q.left x r (λ e. omega arith));
     }
 
-pub returns-else-rounds-eq0 : goal.returns-else-rounds-eq0
-returns-else-rounds-eq0 c =
+pub returns-else-rounds-eq0-clause-work : goal.returns-else-rounds-eq0-clause-work
+returns-else-rounds-eq0-clause-work c =
     let w = c.args.self.now in
     let q = c.args.rounds in
     let f = Again record q { left = q.left - 1 } in
     let x = block_of q.body.now in
     let r = block_of q.rest.now before stack w.frames.items end in
-    record {
-      work = ap (λ (b : Block). x before b) (stack_push _ w.frames.items f c.push_reserved.ensures.items end) ∙ some_rounds q.line q.left x r (λ e. omega arith);
-      stays = (refl, refl);
-    }
+    ap (λ (b : Block). x before b) (stack_push _ w.frames.items f c.push_reserved.ensures.items end) ∙ some_rounds q.line q.left x r (λ e. omega arith)
