@@ -13,7 +13,7 @@ use crate::work::{Frames, Fresh, Work};
 use cards::{Block, Card, Step};
 use std::alloc::{AllocError, Global};
 
-// What work comes to next: nothing, a statement, or one of the rounds left.
+// What work comes to next: nothing, a statement, or one of the rounds left. Three cases that one `match` tells apart.
 #[derive(Clone, Copy)]
 pub(crate) enum Head<'c> {
     Nothing,
