@@ -111,7 +111,8 @@ impl<'c> Work<'c> {
         }
     }
 
-    // Goes on with the rest of the block. What fits depends on the frames that are there, so no block's type can tell it.
+    // Goes on with the rest of the block. What fits depends on the frames that are there, so no block's type can tell it;
+    // and what stays ties the work before to the work after.
     pub(crate) fn pass(&mut self, rest: &'c Block)
         requires fits { Fits self.old (depth (block_of rest.now)) }
         requires few { Few self.old (over (block_of rest.now) self.old) }
