@@ -22,10 +22,6 @@ use Rattle.runs.proofs.Events.{put_found}
 use Rattle.runs.proofs.Refusals.{answer_refused}
 use Rattle.bench.specs.declared.answers.Refused.{Refused}
 
--- a refusal that is handed on
-pub handed_on : {A T : Type 0} {e x : Refused T} (r : Result A (Refused T)) → IsErrAnd r (λ y. y ≡ e) → e ≡ x → r ≡ Err x
-handed_on r h e = let p = err_from_is_err_and r h in p.1 ∙ ap (λ y. Err y) (p.2 ∙ e)
-
 module _ (k : Kind) (x : Call) (b : Bench) where
   pub foreign_refusal : fits x b ≡ false → refusal k x b ≡ Some Foreign
   unfolding refusal
