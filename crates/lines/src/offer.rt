@@ -23,7 +23,7 @@ fn fill<'a>(
 {
     let mut len = 0;
     for n in order {
-        // Written before it is counted: with a branch for each task, as of `filter` or `push`, it was slower.
+        // Written before it is counted: a branch for each task was slower where some are offered and some are not.
         row[len] = *n;
         len += (states[*n as usize].is_waiting() & clear[*n as usize]) as usize;
     }
