@@ -1,8 +1,6 @@
 -- Calls that are refused or granted, and tasks that get another status.
-use Rattle.std.proofs.Common.{◌≡◌, ℕ, Bool, true, false, cond, leb, List, length, [], ◌∷◌, Err, Result, sym, ap, ◌∙◌, None, Option, Some}
+use Rattle.std.proofs.Common.{◌≡◌, ℕ, Bool, true, false, cond, leb, List, length, [], ◌∷◌, sym, ap, ◌∙◌, None, Option, Some}
 use Rattle.std.proofs.lemmas.Bool.{cond-true, cond-false}
-use Rattle.std.proofs.lemmas.Result.{err_from_is_err_and}
-use Rattle.std.specs.Result.{IsErrAnd}
 use Rattle.kinds.specs.Kinds.{Kind}
 use Rattle.working.specs.Tasks.{Task}
 use Rattle.runs.specs.declared.refusal.Refusal.{Refusal}
@@ -20,11 +18,6 @@ use Rattle.runs.proofs.Lines.{found}
 use Rattle.runs.proofs.Left.{marked_keeps}
 use Rattle.runs.proofs.Events.{put_found}
 use Rattle.runs.proofs.Refusals.{answer_refused}
-use Rattle.bench.specs.declared.answers.Refused.{Refused}
-
--- a refusal that is handed on
-pub handed_on : {A T : Type 0} {e x : Refused T} (r : Result A (Refused T)) → IsErrAnd r (λ y. y ≡ e) → e ≡ x → r ≡ Err x
-handed_on r h e = let p = err_from_is_err_and r h in p.1 ∙ ap (λ y. Err y) (p.2 ∙ e)
 
 module _ (k : Kind) (x : Call) (b : Bench) where
   pub foreign_refusal : fits x b ≡ false → refusal k x b ≡ Some Foreign
