@@ -1,7 +1,7 @@
 // The scheduler that goes round the task numbers.
-ghost use Rattle.std.specs.Prelude.{◌≡◌, ◌<◌, ◌≤◌, [], All, Contains, IfNone, IfSome, unwrap_or};
-ghost use Rattle.schedulers.specs.Schedulers.{turns, turns_next};
-ghost use Rattle.schedulers.specs.Rounds.{turns_inside, in_round, ahead};
+ghost use Rattle.std.specs.Prelude.{◌≡◌, ◌+◌, ◌-◌, ◌%◌, ◌<◌, ◌≤◌, length, unwrap_or};
+ghost use Rattle.schedulers.specs.Schedulers.{place_of, met, turns, turns_next};
+ghost use Rattle.schedulers.specs.Rounds.{turns_inside};
 
 use crate::scheduler::Scheduler;
 
@@ -22,27 +22,38 @@ impl Turns {
         Turns { k: 0 }
     }
 
-    // The offered number that counting up from `k` meets first, found without counting.
-    fn nearest(&self, offer: &[u8]) -> Option<u8>
-        ensures none { IfNone result (in_round offer.now ≡ []) }
-        ensures below { IfSome result (λ n. n < 64) }
-        ensures offered { IfSome result (Contains offer.now) }
-        ensures least { IfSome result (λ n. All (λ m. ahead self.now.k n ≤ ahead self.now.k m) (in_round offer.now)) }
-    {
-        offer
-            .iter()
-            .copied()
-            .filter(|n| *n < ROUND)
-            .min_by_key(|n| n.wrapping_sub(self.k) % ROUND)
-    }
-
-    // The earliest place of that number.
+    // The earliest place of the offered number that counting up from `k` meets first.
     fn meet(&self, offer: &[u8]) -> Option<usize>
         ensures { unwrap_or result 0 ≡ turns self.now.k offer.now }
     {
-        let number = self.nearest(offer)?;
+        let ahead = nearest(offer, self.k);
+        if ahead == ROUND {
+            return None;
+        }
+        let number = (self.k + ahead) % ROUND;
         offer.iter().position(|n| *n == number)
     }
+}
+
+// How far ahead of `k` the nearest offered number is; `ROUND` if there is none below it.
+//
+// By a loop: over the offers of 62 tasks, `filter` and `min_by_key` made whole cards take twice the time.
+fn nearest(offer: &[u8], k: u8) -> u8
+    requires { k < 64 }
+    ensures within { result ≤ 64 }
+    ensures skipped { turns k offer.now ≡ met (64 - result) ((k + result) % 64) offer.now }
+    ensures offered { result < 64 → place_of ((k + result) % 64) offer.now < length offer.now }
+{
+    let mut least = ROUND;
+    for n in offer {
+        let ahead = if *n < ROUND {
+            n.wrapping_sub(k) % ROUND
+        } else {
+            ROUND
+        };
+        least = least.min(ahead);
+    }
+    least
 }
 
 impl Scheduler for Turns {
