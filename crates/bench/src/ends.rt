@@ -20,7 +20,7 @@ use schedulers::Scheduler;
 // it lends the same bench still.
 impl<'c, K: ValueKind> Bench<'c, K> {
     // Takes and performs the turn that the scheduler chooses from what is offered, and tells whether what is offered
-    // stays as it is.
+    // stays as it is. Not by `advance`, whose task has its turn out: here it waits.
     fn turn<S: Scheduler>(&mut self, offered: &[u8], scheduler: &mut S) -> bool
         requires all { offered.now ≡ offer (bench_of self.old) }
         requires unsettled { settled (bench_of self.old) ≡ false }
@@ -42,8 +42,9 @@ impl<'c, K: ValueKind> Bench<'c, K> {
         ensures works { Working (K.kind self.old.kind.now) S.choice S.next scheduler.old self.old scheduler.new self.new }
         ensures falls { left (bench_of self.new).line < left (bench_of self.old).line }
     {
+        // Fixed memory: no call of an open bench asks for any.
         let mut row = [0; 64];
-        let offered = self.line.offer(&mut row);
+        let offered = self.line.ready(&mut row);
         while self.turn(offered, scheduler) {}
     }
 

@@ -47,7 +47,8 @@ impl<'c, K: ValueKind> Bench<'c, K> {
         }
     }
 
-    // Writes the run's sheet to the front of the buffer, and tells its length. Later bytes stay as they are.
+    // Writes the run's sheet to the front of the buffer, and tells its length: a slice of the front could not say that
+    // later bytes stay as they are.
     #[tactic(auto, using(crate::proofs::Calls::sheet_foreign, crate::proofs::Calls::sheet_too_long), unfolding(runs::specs::Tests::fits))]
     pub fn sheet(&mut self, closed: Closed, buffer: &mut [u8]) -> Result<usize, Refused<Closed>>
         ensures { Writes (K.kind self.old.kind.now) closed buffer.old self.old result buffer.new self.new }

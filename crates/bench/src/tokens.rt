@@ -7,7 +7,8 @@ pub struct Going {
     pub(crate) run: u16,
 }
 
-// The state of a run that is closed. Its sheet is written for it.
+// The state of a run that is closed. Its sheet is written for it. Of one shape with `Going`: two types, so that neither
+// is taken for the other.
 #[derive(Drop)]
 pub struct Closed {
     pub(crate) run: u16,

@@ -35,8 +35,9 @@ impl<'c, K: ValueKind> Bench<'c, K> {
     pub(crate) fn give<S: Scheduler>(&mut self, scheduler: &mut S) -> Option<u8>
         ensures { Gives (S.choice scheduler.old) S.next scheduler.old self.old result scheduler.new self.new }
     {
+        // Fixed memory: no call of an open bench asks for any.
         let mut row = [0; 64];
-        let offer = self.line.offer(&mut row);
+        let offer = self.line.ready(&mut row);
         if offer.is_empty() {
             return None;
         }

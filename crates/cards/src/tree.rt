@@ -2,6 +2,7 @@
 use crate::names::{Local, Pointer};
 use crate::section::Section;
 
+// A type of its own and no Option of a boxed step: `End` and `Then` are the cases that the definitions tell apart.
 #[cycle(block)]
 #[derive(Drop)]
 pub enum Block {

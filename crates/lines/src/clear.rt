@@ -7,7 +7,8 @@ ghost use Rattle.lines.specs.Clears as Clears;
 use cards::Access;
 use working::Declared;
 
-// Which immediate declarations of the next entry of a queue would be clear.
+// Which immediate declarations of the next entry of a queue would be clear. Not one generic struct with `Declared`, whose
+// levels stand in all definitions.
 #[derive(Clone, Copy)]
 pub(crate) struct Clear {
     pub(crate) reads: bool,

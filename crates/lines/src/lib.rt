@@ -1,7 +1,7 @@
 // The line of a bench's unfinished tasks, with a queue for each object.
 //
 // `Line` keeps the line's order, the queues, and each task's state and readiness. `Line::new` has main in line.
-// `offer` tells which tasks may be taken, `look` what stands in a queue, `state`, `has_turn`, `any_out`, `first` and
+// `offer` and `ready` tell which tasks may be taken, `look` what stands in a queue, `state`, `has_turn`, `any_out`, `first` and
 // `is_settled` how the tasks stand. `take` and `hand_back` move a turn. What a performed step came to is told by one
 // of `wait`, `redeclare`, `enter`, `finish` and `stick`. What a task declares is told by its record or by a slice: both
 // are `Declares`.

@@ -35,7 +35,8 @@ fn place<T: Copy + Numbered>(row: &[T], n: u8) -> Option<usize>
     row.iter().position(|x| x.number() == n)
 }
 
-// Before the first element numbered n, or at the end.
+// Before the first element numbered n, or at the end. As in `rows`, the capacity is a clause: it ties the row before to
+// the row after.
 pub(crate) fn put_before<T: Copy + Numbered>(row: &mut Vec<T>, n: u8, x: T)
     requires { vec_len row.old < vec_capacity row.old }
     ensures items { row.new.items ≡ put_before T.Numbered.known n x row.old.items }

@@ -80,6 +80,7 @@ impl Line {
     pub fn is_settled(&self) -> bool
         ensures { (t : ℕ → Task) → result ≡ settled_line (line_of self.now t) }
     {
+        // A match: through `is_none_or`, whose clause speaks of the closure, the search finds no proof.
         match self.first() {
             None => true,
             Some(n) => self.state(n).is_stuck(),

@@ -2,7 +2,8 @@
 ghost use Rattle.std.specs.Prelude.{◌+◌, ◌≤◌, length};
 
 // The text still to be read, whose first line is line `line` after `header` lines; in the lines section `left` of
-// its lines are still to come, and a `point` names one of `objects` objects.
+// its lines are still to come, and a `point` names one of `objects` objects. The heap goes beside the cursor, since most
+// of its calls ask for no memory.
 #[derive(Drop)]
 pub struct Cursor<'a> {
     pub(crate) rest: &'a [u8],

@@ -29,7 +29,8 @@ fn two<A: Drop, B: Drop>(
     Ok(operands)
 }
 
-// Reads the words after the first by the form that it names.
+// Reads the words after the first by the form that it names: an arm for each, since the arms differ in the variant and its
+// fields, for which no parameter stands.
 fn read_operands(verb: Verb, t: Tokens<'_>) -> Result<Line, WordFault>
     ensures { said result ≡ operands verb (seen t.entry.second) (seen t.entry.third) (seen t.entry.fourth) }
 {

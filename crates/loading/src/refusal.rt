@@ -55,6 +55,8 @@ impl From<LineFault> for LoadRefusal {
     }
 }
 
+// Two impls of one body: the two types of the library have no trait in common to be generic over.
+
 impl From<AllocError> for LoadRefusal {
     ghost from_gives = { λ _ r. r ≡ Memory };
 

@@ -37,6 +37,7 @@ impl Turns {
 
 // How far ahead of `k` the nearest offered number is; `ROUND` if there is none below it.
 //
+// `ROUND` for none and no Option: it is where the minimum begins, and only `meet` sees it.
 // By a loop: over the offers of 62 tasks, `filter` and `min_by_key` made whole cards take twice the time.
 fn nearest(offer: &[u8], k: u8) -> u8
     requires { k < 64 }

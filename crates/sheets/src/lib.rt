@@ -20,7 +20,8 @@ mod append;
 // No sheet of a run has more bytes.
 pub const LONGEST: usize = 512;
 
-// The words that a card left in its objects, behind the tasks made and the steps taken.
+// The words that a card left in its objects, behind the tasks made and the steps taken: two numbers, since a bench has
+// them apart.
 pub fn run_sheet<K: ValueKind>(
     heap: Global,
     kind: &K,
@@ -35,7 +36,8 @@ pub fn run_sheet<K: ValueKind>(
     Ok(out)
 }
 
-// A fault of the task at a place, which is the ranks below main.
+// A fault of the task at a place, which is the ranks below main: a slice, since a `Place` is at most 8 deep, and that would
+// ask more of callers.
 pub fn fault_sheet(heap: Global, fault: Fault, place: &[u8]) -> Result<Vec<u8>, AllocError>
     ensures { IfOk result (λ v. v.items ≡ fault_sheet fault.kind fault.line place.now) }
 {

@@ -12,7 +12,8 @@ use crate::tasks::Tasks;
 use kinds::ValueKind;
 use working::{Fault, Fresh, Record, Stepped, Task};
 
-// The task went on, with other declarations or not, is finished, or made the child of this number.
+// The task went on, with other declarations or not, is finished, or made the child of this number. Not one generic enum
+// with `Stepped`: its `map` would have the same arms, over a closure that changes the tasks.
 #[derive(Clone, Copy, Debug, PartialEq, Eq)]
 pub enum Progress {
     Went,

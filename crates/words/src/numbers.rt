@@ -2,7 +2,7 @@
 ghost use Rattle.std.specs.Prelude.{◌≡◌, ◌≤◌, IfSome};
 ghost use Rattle.words.specs.Numbers.{reads, number, literal};
 
-// The number that digits write, if it is at most `max`.
+// The number that digits write, if it is at most `max`. By hand: the library's parse takes a plus and leading zeros.
 fn read_digits(s: &[u8], max: u16) -> Option<u16>
     ensures value { result ≡ reads max 0 s.now }
     ensures bound { IfSome result (λ n. n ≤ max) }

@@ -25,8 +25,8 @@ pub struct Place {
     pub word: u32,
 }
 
-// A word of a line with its place, or a place at which the line has no word. An enum of its own, since each case has
-// its place: a word's bytes are a part of the card's text.
+// A word of a line, whose bytes are a part of the card's text, or a place at which the line has no word: the cases of the
+// definitions' `Seen`. Of a struct with a place and an Option, `seen` would have to make these two cases again.
 #[derive(Clone, Copy)]
 pub enum Token<'a> {
     Word { bytes: &'a [u8], place: Place },

@@ -40,7 +40,8 @@ fn assign(ds: &mut [Declared], o: usize, a: Access, level: Level)
     }
 }
 
-// What `with` does to declarations, up to the first that is refused.
+// What `with` does to declarations, up to the first that is refused. An index by `as`, which computes in a proof, where
+// `usize::from` gives a new value with an equation.
 fn amend(pointers: &[u8; 4], ds: &mut [Declared], section: &Section) -> Result<(), Refused>
     ensures { amended pointers.now ds.old section.now.lines.items ≡ section_of result ds.new }
 {

@@ -27,7 +27,7 @@ impl Record {
         self.words[i.n as usize]
     }
 
-    // Does the statement of a step, but for the work.
+    // Does the statement of a step, but for the work. There are words for all objects, as `Task::step` says.
     pub(crate) fn act<'c, K: ValueKind>(
         &mut self,
         kind: &K,

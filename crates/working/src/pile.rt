@@ -14,8 +14,8 @@ use kinds::ValueKind;
 use std::alloc::{AllocError, Global};
 use std::mem;
 
-// Where working stops: all tasks are finished, or one faults. With the steps made and the tasks made. Not a `Worked`,
-// since the words stay with the caller.
+// Where working stops: all tasks are finished, or one faults. With the steps made and the tasks made. Not one
+// generic type with `Worked`: a parameter would stand in each definition that names what a card comes to.
 #[derive(Clone, Copy)]
 pub(crate) struct Ran {
     pub stop: Result<(), TaskFault>,
@@ -23,7 +23,8 @@ pub(crate) struct Ran {
     pub made: u32,
 }
 
-// Works a task off on the objects' words, and each child as soon as it is made.
+// Works a task off on the objects' words, and each child as soon as it is made. There are words for all objects, as
+// `Task::step` says.
 pub(crate) fn work_off<'c, K: ValueKind>(
     heap: Global,
     kind: &K,

@@ -159,7 +159,7 @@ module _ (n : ℕ) where
       }
 
       unended : (ps : List Open) → at_end ps m ≡ Err e → First (section_read 0 os m) m 0 s e
-      unended [] z = let x : ◌≡◌ {A = ℕ} 0 1 = cc in absurd (omega arith)
+      unended [] z = cc
       unended (p ∷ ps) z = let is : e ≡ F.Open m = cc in decided (ap line_of is) (ap word_of is) (subst AtEnd (sym is) tt)
 
       go : (t : Bool) → eqb (length s) 0 ≡ t → end_read os m (eqb (length s) 0) ≡ Err e → First (section_read 0 os m) m 0 s e

@@ -7,8 +7,8 @@ pub loop-n-preserved : goal.loop-n-preserved
 loop-n-preserved c =
     let n = get_or c.args.order.now c.loop-n.n-index 0 in
     let test : Bool = c.is_waiting.result && get_or c.args.clear.now n false in
-    let at : c.loop-n.len < length c.loop-n.row = omega (arith, c.loop-n.invariant.1, c.loop-n.invariant.2, c.requires, c.loop-n-test.true) in (
-      fill_more (offers c.args.states.now c.args.clear.now) c.args.order.now c.loop-n.n-index c.loop-n-test.true c.loop-n.row c.loop-n.len at c.loop-n.invariant.0 test (offers_is c.args.states.now c.args.clear.now n c.is_waiting.result c.is_waiting.ensures),
+    let at : c.loop-n.len < length c.loop-n.into = omega (arith, c.loop-n.invariant.1, c.loop-n.invariant.2, c.requires, c.loop-n-test.true) in (
+      fill_more (offers c.args.states.now c.args.clear.now) c.args.order.now c.loop-n.n-index c.loop-n-test.true c.loop-n.into c.loop-n.len at c.loop-n.invariant.0 test (offers_is c.args.states.now c.args.clear.now n c.is_waiting.result c.is_waiting.ensures),
       omega (arith, c.loop-n.invariant.1, at_most_one test),
       length-set _ _ _ ∙ c.loop-n.invariant.2,
     )

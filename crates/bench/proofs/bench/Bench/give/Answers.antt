@@ -15,34 +15,34 @@ use Rattle.bench.specs.Views.{bench_of}
 use Rattle.bench.proofs.Calls.{put_is, put_left}
 use Rattle.bench.proofs.Picks.{chosen_below}
 use Rattle.bench.proofs.bench.Bench.give.Given as given
-use Rattle.bench.proofs.bench.Bench.give.Goals.{After-offer-offer, After-take}
+use Rattle.bench.proofs.bench.Bench.give.Goals.{After-ready-offer, After-take}
 use Rattle.bench.proofs.bench.Bench.give.Goals as goal
 
 -- the choice of the scheduler as it was, and its law
-abbrev choice : (g : given.Over) → After-offer-offer g → List ℕ → ℕ
+abbrev choice : (g : given.Over) → After-ready-offer g → List ℕ → ℕ
 choice g c = g.S.Scheduler.choice c.args.scheduler.now
 
-lawful : (g : given.Over) (c : After-offer-offer g) → Chooses (choice g c)
+lawful : (g : given.Over) (c : After-ready-offer g) → Chooses (choice g c)
 lawful g c = g.met.S.Scheduler.inside c.args.scheduler.now
 
-offers : (g : given.Over) (c : After-offer-offer g) → c.offer-offer.result.now ≡ offer (bench_of c.args.self.now)
+offers : (g : given.Over) (c : After-ready-offer g) → c.ready-offer.result.now ≡ offer (bench_of c.args.self.now)
 unfolding bench offer
-offers g c = c.offer-offer.ensures.items (task_at (tasks_of c.args.self.now.tasks)) c.args.self.now.told
+offers g c = c.ready-offer.ensures.items (task_at (tasks_of c.args.self.now.tasks)) c.args.self.now.told
 
 pub returns-then-is_empty : goal.returns-then-is_empty
 returns-then-is_empty g c =
-    let none : c.offer-offer.result.now ≡ [] = nil_from_length _ (eqb-true _ 0 (sym c.is_empty.ensures ∙ c.if-is_empty.true)) in
-    (sym (offers g (goal.at.returns-then-is_empty g c).After-offer-offer) ∙ none, refl, refl)
+    let none : c.ready-offer.result.now ≡ [] = nil_from_length _ (eqb-true _ 0 (sym c.is_empty.ensures ∙ c.if-is_empty.true)) in
+    (sym (offers g (goal.at.returns-then-is_empty g c).After-ready-offer) ∙ none, refl, refl)
 
 module _ (g : given.Over) (c : After-take g) where
-  abbrev begun : After-offer-offer g
-  begun = (goal.at.invariant_of-self g c).After-offer-offer
+  abbrev begun : After-ready-offer g
+  begun = (goal.at.invariant_of-self g c).After-ready-offer
 
   abbrev at : ℕ → Task
   at = task_at (tasks_of c.args.self.now.tasks)
 
   some_offered : 0 < length (offer (bench_of c.args.self.now))
-  some_offered = let more : 0 < length c.offer-offer.result.now = grind arith in omega (arith, more, ap length (offers g begun))
+  some_offered = let more : 0 < length c.ready-offer.result.now = grind arith in omega (arith, more, ap length (offers g begun))
 
   number : c.choose-task.result ≡ chosen (choice g begun) (offer (bench_of c.args.self.now))
   number = c.choose-task.ensures.number ∙ ap (chosen (choice g begun)) (offers g begun)

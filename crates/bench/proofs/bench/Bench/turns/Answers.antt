@@ -28,7 +28,7 @@ pub turn-requires : goal.turn-requires
 turn-requires g c =
     let i = c.loop-offered.invariant in
     record {
-      all = still_offered c.loop-offered.self c.args.self.now _ i.1 c.offer-offered.ensures.items;
+      all = still_offered c.loop-offered.self c.args.self.now _ i.1 c.ready-offered.ensures.items;
       unsettled = still_unsettled c.loop-offered.self c.args.self.now i.1 c.requires.unsettled;
       at_work = i.0.at_work;
     }
