@@ -52,4 +52,4 @@ list 5 'a part of an array up to its count' src '\[(0)?\.\.[a-z.]+ as usize\]|\[
 list 6 'arrays of a fixed size' src '\[[A-Za-z0-9_]+; ?[0-9A-Z_]+\]'
 list 6 'parallel vectors' src '^    pub\(crate\) (records|works): '
 list 7 'macros, function pointers, dyn, values taken out and put back' src 'macro_rules!|\bfn\(|\bdyn\b|mem::replace'
-list 8 'files of proofs' find crates -path '*/proofs/*' -name '*.antt'
+list 8 'files of proofs' find crates/*/proofs -name '*.antt'
