@@ -22,3 +22,6 @@ mod turns;
 pub use line::Line;
 pub use state::{Deed, Event, State, decide};
 pub use told::Declares;
+
+#[cfg(test)]
+mod tests;

@@ -100,4 +100,6 @@ pub fn text_sheet(heap: Global, text: &[u8]) -> Result<Vec<u8>, AllocError>
 }
 
 #[cfg(test)]
+mod calls;
+#[cfg(test)]
 mod tests;
