@@ -38,7 +38,7 @@ impl<'c, K: ValueKind> Bench<'c, K> {
     // One step of a task whose turn is out.
     pub(crate) fn advance(&mut self, n: u8) -> Performed
         requires { has_turn n (bench_of self.old).line ≡ true }
-        ensures { Advances (K.ValueKind.kind self.old.kind.now) n self.old result self.new }
+        ensures { Advances (K.kind self.old.kind.now) n self.old result self.new }
     {
         let progress = self.tasks.step(self.kind, n).unwrap();
         follow(&mut self.line, &self.tasks, n, progress);

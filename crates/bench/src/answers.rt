@@ -1,4 +1,6 @@
 // What the calls answer.
+ghost use Rattle.std.specs.Prelude.{◌≡◌, IfOk, IfErr, is_ok};
+
 use runs::Refusal;
 use working::FaultKind;
 
@@ -14,4 +16,19 @@ pub enum Performed {
 pub struct Refused<T> {
     pub refusal: Refusal,
     pub given: T,
+}
+
+impl<T> Refused<T> {
+    // What is given, if the test holds; else it is handed back with the refusal.
+    pub(crate) fn unless(test: bool, refusal: Refusal, given: T) -> Result<T, Refused<T>>
+        ensures granted { is_ok result ≡ test }
+        ensures ok { IfOk result (λ x. x ≡ given) }
+        ensures err { IfErr result (λ e. e ≡ record { refusal = refusal; given = given }) }
+    {
+        if test {
+            Ok(given)
+        } else {
+            Err(Refused { refusal, given })
+        }
+    }
 }

@@ -21,6 +21,8 @@ pub struct Bench<'c, K> {
     pub(crate) tasks: Tasks<'c>,
     pub(crate) line: Line,
     pub(crate) steps: u32,
+    // A flag, and no other type: a call with a state of another run, or of this one before it was closed, is answered
+    // by a refusal.
     pub(crate) closed: bool,
     pub(crate) page: Vec<u8>,
     ghost told: { Tells line (task_at (tasks_of tasks)) },

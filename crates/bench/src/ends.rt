@@ -22,7 +22,7 @@ impl<'c, K: ValueKind> Bench<'c, K> {
         requires all { offered.now ≡ offer (bench_of self.old) }
         requires unsettled { settled (bench_of self.old) ≡ false }
         requires at_work { AtWork (bench_of self.old) }
-        ensures turns { TurnsOnce (K.ValueKind.kind self.old.kind.now) S.Scheduler.choice S.Scheduler.next scheduler.old self.old scheduler.new self.new }
+        ensures turns { TurnsOnce (K.kind self.old.kind.now) S.choice S.next scheduler.old self.old scheduler.new self.new }
         ensures stays { result ≡ true → self.new.line ≡ self.old.line }
     {
         let place = scheduler.pick(offered).unwrap();
@@ -37,7 +37,7 @@ impl<'c, K: ValueKind> Bench<'c, K> {
     fn turns<S: Scheduler>(&mut self, scheduler: &mut S)
         requires unsettled { (t : ℕ → Task) → settled_line (line_of self.old.line t) ≡ false }
         requires at_work { AtWork (bench_of self.old) }
-        ensures works { Working (K.ValueKind.kind self.old.kind.now) S.Scheduler.choice S.Scheduler.next scheduler.old self.old scheduler.new self.new }
+        ensures works { Working (K.kind self.old.kind.now) S.choice S.next scheduler.old self.old scheduler.new self.new }
         ensures falls { left (bench_of self.new).line < left (bench_of self.old).line }
     {
         let mut row = [0; 64];
@@ -48,7 +48,7 @@ impl<'c, K: ValueKind> Bench<'c, K> {
     // Takes and performs turns until the run is settled.
     fn settle<S: Scheduler>(&mut self, scheduler: &mut S)
         requires { AtWork (bench_of self.old) }
-        ensures { Settles (K.ValueKind.kind self.old.kind.now) S.Scheduler.choice S.Scheduler.next scheduler.old self.old scheduler.new self.new }
+        ensures { Settles (K.kind self.old.kind.now) S.choice S.next scheduler.old self.old scheduler.new self.new }
     {
         while !self.line.is_settled() {
             self.turns(scheduler);
@@ -56,48 +56,29 @@ impl<'c, K: ValueKind> Bench<'c, K> {
     }
 
     // Works the run off under one scheduler, until it can be closed.
+    #[tactic(auto, using(crate::proofs::Calls::foreign_refusal, crate::proofs::Calls::own_refusal_is, crate::proofs::Calls::unless_false), unfolding(runs::specs::Benches::bench, runs::specs::Tests::fits, runs::specs::Tests::own_refusal))]
     pub fn work_off<S: Scheduler>(
         &mut self,
         going: Going,
         scheduler: &mut S,
     ) -> Result<Going, Refused<Going>>
-        ensures { WorksAll (K.ValueKind.kind self.old.kind.now) S.Scheduler.choice S.Scheduler.next going scheduler.old self.old result scheduler.new self.new }
+        ensures { WorksAll (K.kind self.old.kind.now) S.choice S.next going scheduler.old self.old result scheduler.new self.new }
     {
-        if !self.admits(&going) {
-            return Err(Refused {
-                refusal: Refusal::Foreign,
-                given: going,
-            });
-        }
-        if self.line.any_out() {
-            return Err(Refused {
-                refusal: Refusal::Unsettled,
-                given: going,
-            });
-        }
+        let going = Refused::unless(self.admits(&going), Refusal::Foreign, going)?;
+        let going = Refused::unless(!self.line.any_out(), Refusal::Unsettled, going)?;
         self.settle(scheduler);
         Ok(going)
     }
 
     // Closes a run that is settled and has no turn out.
+    #[tactic(auto, using(crate::proofs::Calls::foreign, crate::proofs::Calls::close_unsettled), unfolding(runs::specs::Benches::bench, runs::specs::Benches::settled, runs::specs::Events::can_close, runs::specs::Tests::fits))]
     pub fn close(&mut self, going: Going) -> Result<Closed, Refused<Going>>
-        ensures { Closes (K.ValueKind.kind self.old.kind.now) going self.old result self.new }
+        ensures { Closes (K.kind self.old.kind.now) going self.old result self.new }
     {
-        if !self.admits(&going) {
-            return Err(Refused {
-                refusal: Refusal::Foreign,
-                given: going,
-            });
-        }
+        let going = Refused::unless(self.admits(&going), Refusal::Foreign, going)?;
         let rests = self.line.is_settled() & !self.line.any_out();
-        if !rests {
-            return Err(Refused {
-                refusal: Refusal::Unsettled,
-                given: going,
-            });
-        }
-        let Going { run } = going;
+        let going = Refused::unless(rests, Refusal::Unsettled, going)?;
         self.closed = true;
-        Ok(Closed { run })
+        Ok(Closed { run: going.run })
     }
 }

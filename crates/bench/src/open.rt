@@ -20,7 +20,7 @@ impl<'c, K: ValueKind> Bench<'c, K> {
         card: &'c Card,
         run: u16,
     ) -> Result<(Bench<'c, K>, Going), AllocError>
-        ensures { IfOk result (λ p. Opens (K.ValueKind.kind kind.now) (card_of card.now) run kind.now p.0 p.1) }
+        ensures { IfOk result (λ p. Opens (K.kind kind.now) (card_of card.now) run kind.now p.0 p.1) }
     {
         let tasks = Tasks::open(heap, kind, card)?;
         let line = Line::declaring(heap, tasks.declared(0))?;

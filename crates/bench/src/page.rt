@@ -14,6 +14,7 @@ use sheets::{append_fault, append_run};
 
 impl<'c, K: ValueKind> Bench<'c, K> {
     // Whether a closed state is of this run, and the run is closed.
+    #[tactic(auto, unfolding(runs::specs::Benches::bench, runs::specs::Tests::fits_closed))]
     fn has_closed(&self, closed: &Closed) -> bool
         ensures { result ≡ fits_closed (closed_of closed.now) (bench_of self.now) }
     {
@@ -22,7 +23,7 @@ impl<'c, K: ValueKind> Bench<'c, K> {
 
     // Writes the sheet of a settled run to the page: the words, or the fault of the first in line.
     fn fill_page(&mut self)
-        ensures { Fills (K.ValueKind.kind self.old.kind.now) self.old self.new }
+        ensures { Fills (K.kind self.old.kind.now) self.old self.new }
     {
         self.page.clear();
         match self.line.first() {
@@ -48,23 +49,14 @@ impl<'c, K: ValueKind> Bench<'c, K> {
     }
 
     // Writes the run's sheet to the front of the buffer, and tells its length. Later bytes stay as they are.
+    #[tactic(auto, using(crate::proofs::Calls::sheet_foreign, crate::proofs::Calls::sheet_too_long), unfolding(runs::specs::Tests::fits))]
     pub fn sheet(&mut self, closed: Closed, buffer: &mut [u8]) -> Result<usize, Refused<Closed>>
-        ensures { Writes (K.ValueKind.kind self.old.kind.now) closed buffer.old self.old result buffer.new self.new }
+        ensures { Writes (K.kind self.old.kind.now) closed buffer.old self.old result buffer.new self.new }
     {
-        if !self.has_closed(&closed) {
-            return Err(Refused {
-                refusal: Refusal::Foreign,
-                given: closed,
-            });
-        }
+        let closed = Refused::unless(self.has_closed(&closed), Refusal::Foreign, closed)?;
         self.fill_page();
         let length = self.page.len();
-        if length > buffer.len() {
-            return Err(Refused {
-                refusal: Refusal::BufferTooShort,
-                given: closed,
-            });
-        }
+        Refused::unless(length <= buffer.len(), Refusal::BufferTooShort, closed)?;
         buffer[..length].copy_from_slice(&self.page);
         Ok(length)
     }

@@ -15,6 +15,7 @@ use schedulers::Scheduler;
 
 impl<'c, K: ValueKind> Bench<'c, K> {
     // Whether a going state is of this run, and the run is not closed.
+    #[tactic(auto, unfolding(runs::specs::Benches::bench, runs::specs::Tests::fits_going))]
     pub(crate) fn admits(&self, going: &Going) -> bool
         ensures { result ≡ fits_going (going_of going.now) (bench_of self.now) }
     {
@@ -22,6 +23,7 @@ impl<'c, K: ValueKind> Bench<'c, K> {
     }
 
     // Whether a turn is of this run, and out.
+    #[tactic(auto, unfolding(runs::specs::Benches::bench, runs::specs::Tests::fits_turn))]
     fn knows(&self, turn: &Turn) -> bool
         ensures { result ≡ fits_turn (turn_of turn.now) (bench_of self.now) }
     {
@@ -30,7 +32,7 @@ impl<'c, K: ValueKind> Bench<'c, K> {
 
     // Takes the turn of the task that the scheduler chooses from what is offered, and tells its number.
     pub(crate) fn give<S: Scheduler>(&mut self, scheduler: &mut S) -> Option<u8>
-        ensures { Gives (S.Scheduler.choice scheduler.old) S.Scheduler.next scheduler.old self.old result scheduler.new self.new }
+        ensures { Gives (S.choice scheduler.old) S.next scheduler.old self.old result scheduler.new self.new }
     {
         let mut offer = [0; 64];
         let count = self.line.offer(&mut offer);
@@ -44,51 +46,43 @@ impl<'c, K: ValueKind> Bench<'c, K> {
     }
 
     // The turn of the task that the scheduler chooses from those that are ready and have no turn out.
+    #[tactic(auto, using(crate::proofs::Calls::foreign), unfolding(runs::specs::Tests::fits))]
     pub fn take<S: Scheduler>(&mut self, going: &Going, scheduler: &mut S) -> Result<Turn, Refusal>
-        ensures { Takes (K.ValueKind.kind self.old.kind.now) S.Scheduler.choice S.Scheduler.next going.now scheduler.old self.old result scheduler.new self.new }
+        ensures { Takes (K.kind self.old.kind.now) S.choice S.next going.now scheduler.old self.old result scheduler.new self.new }
     {
         if !self.admits(going) {
             return Err(Refusal::Foreign);
         }
-        match self.give(scheduler) {
-            None => Err(Refusal::NothingToOffer),
-            Some(task) => Ok(Turn {
-                run: self.run,
-                task,
-            }),
-        }
+        let task = self.give(scheduler).ok_or(Refusal::NothingToOffer)?;
+        Ok(Turn {
+            run: self.run,
+            task,
+        })
     }
 
     // One step of the turn's task: done, or the fault at which the task is now stuck.
+    #[tactic(auto, using(crate::proofs::Calls::foreign), unfolding(runs::specs::Benches::bench, runs::specs::Tests::fits, runs::specs::Tests::fits_turn))]
     pub fn perform(&mut self, turn: Turn) -> Result<Performed, Refused<Turn>>
-        ensures { Performs (K.ValueKind.kind self.old.kind.now) turn self.old result self.new }
+        ensures { Performs (K.kind self.old.kind.now) turn self.old result self.new }
     {
-        if !self.knows(&turn) {
-            return Err(Refused {
-                refusal: Refusal::Foreign,
-                given: turn,
-            });
-        }
+        let turn = Refused::unless(self.knows(&turn), Refusal::Foreign, turn)?;
         let Turn { run: _, task } = turn;
         Ok(self.advance(task))
     }
 
     // The turn is given up, and no step is made.
+    #[tactic(auto, using(crate::proofs::Calls::foreign), unfolding(runs::specs::Tests::fits))]
     pub fn hand_back(&mut self, turn: Turn) -> Result<(), Refused<Turn>>
-        ensures { HandsBack (K.ValueKind.kind self.old.kind.now) turn self.old result self.new }
+        ensures { HandsBack (K.kind self.old.kind.now) turn self.old result self.new }
     {
-        if !self.knows(&turn) {
-            return Err(Refused {
-                refusal: Refusal::Foreign,
-                given: turn,
-            });
-        }
+        let turn = Refused::unless(self.knows(&turn), Refusal::Foreign, turn)?;
         let Turn { run: _, task } = turn;
         self.line.hand_back(task);
         Ok(())
     }
 
     // The entry at a place of an object's queue, from 0.
+    #[tactic(auto, unfolding(runs::specs::Benches::bench))]
     pub fn look(&self, object: usize, place: usize) -> Option<Entry>
         ensures { shown result ≡ entry_at place (queue object (bench_of self.now).line) }
     {

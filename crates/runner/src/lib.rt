@@ -32,7 +32,7 @@ pub fn serial_sheet<K: ValueKind>(
     kind: &K,
     card: &Card,
 ) -> Result<Vec<u8>, AllocError>
-    ensures { IfOk result (λ v. v.items ≡ sheet_of (K.ValueKind.kind kind.now) (card_of card.now)) }
+    ensures { IfOk result (λ v. v.items ≡ sheet_of (K.kind kind.now) (card_of card.now)) }
 {
     let worked = work_serially(heap, kind, card)?;
     let made = worked.made;
@@ -54,7 +54,7 @@ pub fn bench_sheet<'c, K: ValueKind, S: Scheduler>(
     card: &'c Card,
     scheduler: &mut S,
 ) -> Result<Vec<u8>, AllocError>
-    ensures { IfOk result (λ v. v.items ≡ sheet_of (K.ValueKind.kind kind.now) (card_of card.now)) }
+    ensures { IfOk result (λ v. v.items ≡ sheet_of (K.kind kind.now) (card_of card.now)) }
 {
     let mut sheet = vec![in heap; 0; LONGEST]?;
     let (mut bench, going) = Bench::open(heap, kind, card, RUN)?;
@@ -93,10 +93,10 @@ pub fn text_sheet(heap: Global, text: &[u8]) -> Result<Vec<u8>, AllocError>
     let mut slot = Slot::new(heap)?;
     match load_card(&mut slot, heap, text) {
         Ok(()) => ordered_sheet(heap, slot.card()),
-        Err(refusal) => match refusal.told() {
-            Some(t) => refused_sheet(heap, t.number, t.line, t.word),
-            None => Err(AllocError),
-        },
+        Err(refusal) => {
+            let t = refusal.told().ok_or(AllocError)?;
+            refused_sheet(heap, t.number, t.line, t.word)
+        }
     }
 }
 

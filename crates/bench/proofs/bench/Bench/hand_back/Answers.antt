@@ -14,29 +14,22 @@ use Rattle.lines.specs.Lines.{line_of}
 use Rattle.bench.specs.Tasks.{task_at}
 use Rattle.bench.specs.Views.{bench_of, turn_of}
 use Rattle.bench.proofs.Histories.{call_leads_on}
-use Rattle.bench.proofs.Calls.{foreign, put_is, put_left}
+use Rattle.bench.proofs.Calls.{put_is, put_left}
 use Rattle.bench.proofs.bench.Bench.hand_back.Given as given
 use Rattle.bench.proofs.bench.Bench.hand_back.Goals.{After-hand_back}
 use Rattle.bench.proofs.bench.Bench.hand_back.Goals as goal
 
-pub returns-then-not-knows : goal.returns-then-not-knows
-unfolding fits
-returns-then-not-knows g c =
-    record {
-      answers = foreign _ (hand_back (turn_of c.args.turn)) (bench_of c.args.self.now) (sym c.knows.ensures ∙ c.if-not-knows.true);
-      back = refl;
-      leads_on = λ _ _ h. h;
-      kind = refl;
-    }
-
 module _ (g : given.Over) (c : After-hand_back g) where
-  known : fits_turn (turn_of c.args.turn) (bench_of c.args.self.now) ≡ true
-  known = sym c.knows.ensures ∙ c.if-not-knows.false
+  same : c.in_ok-turn.turn ≡ c.args.turn
+  same = c.in_ok-turn.ensures.ok
+
+  known : fits_turn (turn_of c.in_ok-turn.turn) (bench_of c.args.self.now) ≡ true
+  known = ap (λ t. fits_turn (turn_of t) (bench_of c.args.self.now)) same ∙ sym c.knows.ensures ∙ sym c.in_ok-turn.ensures.granted
 
   -- the turn was out
   yes : c.hand_back.result ≡ true
   unfolding bench fits_turn
-  yes = c.hand_back.ensures.granted (task_at (tasks_of c.args.self.now.tasks)) ∙ (and_parts (eqb c.args.turn.run c.args.self.now.run) _ known).1
+  yes = c.hand_back.ensures.granted (task_at (tasks_of c.args.self.now.tasks)) ∙ (and_parts (eqb c.in_ok-turn.turn.run c.args.self.now.run) _ known).1
 
 pub invariant_of-self : goal.invariant_of-self
 unfolding weight
@@ -44,7 +37,7 @@ invariant_of-self g c =
     let b = c.args.self.now in
     let e = c.hand_back.ensures in
     let t = task_at (tasks_of b.tasks) in
-    let n = c.args.turn.task in
+    let n = c.in_ok-turn.turn.task in
     let same = put_left b.run (store_of b.tasks) (line_of b.line t) (line_of c.hand_back.new.self t) 0 0 true n (t n) out waiting c.hand_back.result (yes g c) (e.found t (yes g c)) (e.line t) refl in
     record {
       told = e.tells t b.told;
@@ -61,14 +54,14 @@ returns g c =
     let b = c.args.self.now in
     let e = c.hand_back.ensures in
     let t = task_at (tasks_of b.tasks) in
-    let n = c.args.turn.task in
+    let n = c.in_ok-turn.turn.task in
     let l' = line_of c.hand_back.new.self t in
     let is = put_is b.run (store_of b.tasks) (line_of b.line t) l' (length (tasks_of b.tasks)) b.steps b.closed n (t n) out waiting c.hand_back.result (yes g f) (e.found t (yes g f)) (e.line t) in
-    let a : answer _ (hand_back (turn_of c.args.turn)) (bench_of b) ≡ (Answer.returned, bench b.run (store_of b.tasks) l' (length (tasks_of b.tasks)) b.steps b.closed)
-    = answer_granted _ (bench_of b) (hand_back (turn_of c.args.turn)) (known g f) refl ∙ ap {B = Answer × Model.Bench} (λ (v : Model.Bench). (Answer.returned, v)) (sym is) in
+    let a : answer _ (hand_back (turn_of c.in_ok-turn.turn)) (bench_of b) ≡ (Answer.returned, bench b.run (store_of b.tasks) l' (length (tasks_of b.tasks)) b.steps b.closed)
+    = answer_granted _ (bench_of b) (hand_back (turn_of c.in_ok-turn.turn)) (known g f) refl ∙ ap {B = Answer × Model.Bench} (λ (v : Model.Bench). (Answer.returned, v)) (sym is) in
     record {
-      answers = a;
+      answers = ap (λ t. answer (g.K.ValueKind.kind b.kind.now) (hand_back (turn_of t)) (bench_of b)) (sym (same g f)) ∙ a;
       back = tt;
-      leads_on = call_leads_on _ (hand_back (turn_of c.args.turn)) (bench_of b) _ tt (ap (λ (x : Answer × Model.Bench). x.1) a);
+      leads_on = call_leads_on _ (hand_back (turn_of c.in_ok-turn.turn)) (bench_of b) _ tt (ap (λ (x : Answer × Model.Bench). x.1) a);
       kind = refl;
     }

@@ -1,6 +1,6 @@
-use Rattle.std.proofs.Common.{◌≡◌, ℕ, eqb, List, ◌++◌, length, drop, sym, refl, ap, ◌∙◌, ap₂, arith}
-use mathlib.Core.Option.{none, some}
-use Rattle.std.proofs.lemmas.Bool.{both_ways, and_parts, lt-leb, le-leb}
+use Rattle.std.proofs.Common.{◌≡◌, ℕ, eqb, leb, List, ◌++◌, length, drop, sym, refl, ap, ◌∙◌, ap₂}
+use mathlib.Core.Option.{none}
+use Rattle.std.proofs.lemmas.Bool.{and_parts}
 use Rattle.runs.specs.declared.refusal.Refusal.TheVariants.{BufferTooShort}
 use Rattle.runs.specs.Benches.{bench}
 use Rattle.runs.specs.BenchSheets.{bench_sheet}
@@ -9,45 +9,14 @@ use Rattle.runs.specs.Tests.{fits_closed, fits, too_long, own_refusal}
 use Rattle.runs.specs.Answers.{write_out}
 use Rattle.bench.specs.Views.{bench_of, closed_of}
 use Rattle.bench.proofs.Histories.{history_kept}
-use Rattle.bench.proofs.Calls.{foreign_refusal, own_refusal_is, unless_false, unless_true, sheet_refused, sheet_granted}
+use Rattle.bench.proofs.Calls.{own_refusal_is, unless_true, sheet_granted}
 use Rattle.bench.proofs.bench.Bench.sheet.Given as given
 use Rattle.bench.proofs.bench.Bench.sheet.Goals.{After-len-length, After-copy_from_slice}
 use Rattle.bench.proofs.bench.Bench.sheet.Goals as goal
 
-pub returns-then-not-has_closed : goal.returns-then-not-has_closed
-unfolding fits
-returns-then-not-has_closed g c =
-    let b = bench_of c.args.self.now in
-    let z = closed_of c.args.closed in
-    record {
-      answers = sheet_refused _ z c.args.buffer.now b _ (foreign_refusal _ (sheet z c.args.buffer.now) b (sym c.has_closed.ensures ∙ c.if-not-has_closed.true));
-      back = refl;
-      short = λ e _. absurd (both_ways _ (sym c.has_closed.ensures ∙ c.if-not-has_closed.true) e);
-      serial = tt;
-      bench = refl;
-      kind = refl;
-    }
-
 module _ (g : given.Over) (c : After-len-length g) where
   long : c.len-length.result ≡ length (bench_sheet (g.K.ValueKind.kind c.args.self.now.kind.now) (bench_of c.args.self.now))
   long = c.len-length.ensures ∙ c.fill_page.new.self.page.ok.0 ∙ ap length c.fill_page.ensures.sheet
-
-pub returns-then-length-buffer : goal.returns-then-length-buffer
-unfolding fits own_refusal too_long
-returns-then-length-buffer g c =
-    let b = bench_of c.args.self.now in
-    let z = closed_of c.args.closed in
-    let k = g.K.ValueKind.kind c.args.self.now.kind.now in
-    let buffer = c.args.buffer.now in
-    let short = lt-leb (length (bench_sheet k b)) (length buffer) (omega (arith, long g (goal.at.returns-then-length-buffer g c).After-len-length, c.if-length-buffer.true)) in
-    record {
-      answers = sheet_refused k z buffer b BufferTooShort (own_refusal_is k (sheet z buffer) b (some BufferTooShort) (sym c.has_closed.ensures ∙ c.if-not-has_closed.false) (unless_false _ BufferTooShort short));
-      back = refl;
-      short = λ _ room. absurd (omega (arith, room, long g (goal.at.returns-then-length-buffer g c).After-len-length, c.if-length-buffer.true, c.fill_page.ensures.short));
-      serial = tt;
-      bench = c.fill_page.ensures.bench;
-      kind = c.fill_page.ensures.kind;
-    }
 
 pub returns : goal.returns
 unfolding bench fits fits_closed own_refusal too_long write_out
@@ -59,8 +28,8 @@ returns g c =
     let buffer = c.args.buffer.now in
     let n = c.len-length.result in
     let l = long g (goal.at.returns g c).After-len-length in
-    let room = le-leb (length (bench_sheet k b)) (length buffer) (omega (arith, l, c.if-length-buffer.false)) in
-    let fit = sym c.has_closed.ensures ∙ c.if-not-has_closed.false in
+    let room = ap (λ n. leb n (length buffer)) (sym l) ∙ sym c.in_ok-unless.ensures.granted in
+    let fit = sym c.has_closed.ensures ∙ sym c.in_ok-closed.ensures.granted in
     let text : c.copy_from_slice.new.self ≡ bench_sheet k b = c.copy_from_slice.ensures.after ∙ c.deref.ensures.value ∙ c.fill_page.ensures.sheet in
     let shut = (and_parts (eqb c.args.closed.run c.args.self.now.run) c.args.self.now.closed fit).1 in
     record {

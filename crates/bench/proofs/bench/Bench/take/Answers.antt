@@ -1,5 +1,6 @@
-use Rattle.std.proofs.Common.{◌≡◌, ℕ, true, sym, refl, ap, ◌∙◌, subst, ap₂}
-use Rattle.std.proofs.lemmas.Bool.{both_ways, and_from, eq-eqb}
+use Rattle.std.proofs.Common.{◌≡◌, ℕ, true, Some, None, Err, sym, refl, ap, ◌∙◌, subst, ap₂, arith}
+use Rattle.std.proofs.lemmas.Bool.{and_from, eq-eqb}
+use Rattle.std.proofs.lemmas.Result.{err_from_is_err_and}
 use Rattle.runs.specs.declared.refusal.Refusal.TheVariants.{NothingToOffer}
 use Rattle.runs.specs.Lines.{out}
 use Rattle.runs.specs.Benches as Model
@@ -14,9 +15,10 @@ use Rattle.runs.proofs.Changes.{put_run}
 use Rattle.runs.proofs.Refusals.{answer_granted}
 use Rattle.bench.specs.declared.bench.Bench.{Bench}
 use Rattle.bench.specs.Views.{bench_of, going_of}
+use Rattle.bench.specs.Turns.{Gives, Takes}
 use Rattle.bench.specs.Histories.{LeadsOn}
 use Rattle.bench.proofs.Histories.{call_leads_on}
-use Rattle.bench.proofs.Calls.{foreign, refused_own}
+use Rattle.bench.proofs.Calls.{refused_own}
 use Rattle.bench.proofs.Worked.{given_out}
 use Rattle.bench.proofs.Picks.{nothing_settles, refuses_nothing, grants_some}
 use Rattle.bench.proofs.bench.Bench.take.Goals as goal
@@ -29,43 +31,36 @@ own_fits : {K : Type 0} (b : Bench K) (n : ℕ) → has_turn n (bench_of b).line
 unfolding bench fits_turn
 own_fits b n e = and_from _ _ (eq-eqb b.run b.run refl) e
 
-pub returns-then-not-admits : goal.returns-then-not-admits
-unfolding fits
-returns-then-not-admits g c =
-    let out_of_place = sym c.admits.ensures ∙ c.if-not-admits.true in
-    record {
-      answers = foreign _ (Call.take (going_of c.args.going.now) (g.S.Scheduler.choice c.args.scheduler.now)) (bench_of c.args.self.now) out_of_place;
-      scheduler = refl;
-      fits = tt;
-      goes_on = λ e _ _. absurd (both_ways _ out_of_place e);
-      leads_on = λ _ _ h. h;
-      kind = refl;
-    }
-
-pub returns-in-None : goal.returns-in-None
+pub returns-in_err-task : goal.returns-in_err-task
 unfolding fits own_refusal
-returns-in-None g c =
+returns-in_err-task g c =
     let b = c.args.self.now in
-    let e = c.in-None.ensures in
+    let k = g.K.ValueKind.kind b.kind.now in
+    let none : c.give.result ≡ None = grind arith in
+    let e = subst (λ o. Gives (g.S.Scheduler.choice c.args.scheduler.now) g.S.Scheduler.next c.args.scheduler.now b o c.give.new.scheduler c.give.new.self) none c.give.ensures in
     let same : bench_of b ≡ bench_of c.give.new.self = ap bench_of (sym e.2) in
-    record {
+    let p = err_from_is_err_and c.from_residual.result c.from_residual.ensures.1 in
+    let is : c.from_residual.result ≡ Err NothingToOffer = grind arith in
+    subst (λ r. Takes k g.S.Scheduler.choice g.S.Scheduler.next c.args.going.now c.args.scheduler.now b r c.give.new.scheduler c.give.new.self) (sym is)
+    (record {
       answers =
-          refused_own _ (Call.take (going_of c.args.going.now) (g.S.Scheduler.choice c.args.scheduler.now)) (bench_of b) NothingToOffer (sym c.admits.ensures ∙ c.if-not-admits.false) (refuses_nothing (offer (bench_of b)) e.0)
+          refused_own k (Call.take (going_of c.args.going.now) (g.S.Scheduler.choice c.args.scheduler.now)) (bench_of b) NothingToOffer (sym c.admits.ensures ∙ c.if-not-admits.false) (refuses_nothing (offer (bench_of b)) e.0)
           ∙ ap {B = Answer × Model.Bench} (λ (v : Model.Bench). (Answer.refused NothingToOffer, v)) same;
       scheduler = e.1;
       fits = tt;
       goes_on = λ _ s o. nothing_settles (bench_of b) e.0 s o;
-      leads_on = subst (LeadsOn _ (bench_of b)) same (λ _ _ h. h);
+      leads_on = subst (LeadsOn k (bench_of b)) same (λ _ _ h. h);
       kind = ap (λ v. v.kind) e.2;
-    }
+    })
 
-pub returns-in-Some : goal.returns-in-Some
+pub returns : goal.returns
 unfolding fits own_refusal granted effect
-returns-in-Some g c =
+returns g c =
     let b = c.args.self.now in
     let b' = c.give.new.self in
-    let e = c.in-Some.ensures in
-    let n = c.in-Some.task in
+    let n = c.in_ok-task.task in
+    let given : c.give.result ≡ Some n = grind arith in
+    let e = subst (λ o. Gives (g.S.Scheduler.choice c.args.scheduler.now) g.S.Scheduler.next c.args.scheduler.now b o c.give.new.scheduler b') given c.give.ensures in
     let call = Call.take (going_of c.args.going.now) (g.S.Scheduler.choice c.args.scheduler.now) in
     let same_run : (bench_of b').run ≡ (bench_of b).run = ap (λ (v : Model.Bench). v.run) e.bench ∙ put_run n out (bench_of b) in
     let a : answer _ call (bench_of b) ≡ (Answer.turn (Call.turn_of (bench_of b').run n), bench_of b')

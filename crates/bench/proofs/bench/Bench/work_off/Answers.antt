@@ -1,8 +1,8 @@
-use Rattle.std.proofs.Common.{◌≡◌, true, false, not, eqb, sym, refl, ap, ◌∙◌, subst}
-use mathlib.Core.Option.{Option, none, some}
-use Rattle.std.proofs.lemmas.Bool.{and_parts, and_from, not_from_false}
+use Rattle.std.proofs.Common.{◌≡◌, true, false, not, eqb, Ok, sym, refl, ap, ◌∙◌, subst}
+use mathlib.Core.Option.{Option, none}
+use Rattle.std.proofs.lemmas.Bool.{and_parts, and_from, not_from_false, not-true}
 use Rattle.runs.specs.declared.refusal.Refusal.{Refusal}
-use Rattle.runs.specs.declared.refusal.Refusal.TheVariants.{Foreign, Unsettled}
+use Rattle.runs.specs.declared.refusal.Refusal.TheVariants.{Unsettled}
 use Rattle.runs.specs.Lines.{any_out}
 use Rattle.runs.specs.Benches.{Bench, bench}
 use Rattle.runs.specs.Calls.{Going, work_off, Answer}
@@ -12,10 +12,11 @@ use Rattle.runs.proofs.WorkOffs.{going_open}
 use Rattle.tasks.specs.Views.{tasks_of}
 use Rattle.bench.specs.Tasks.{task_at}
 use Rattle.bench.specs.Views.{bench_of, going_of}
+use Rattle.bench.specs.Ends.{WorksAll}
 use Rattle.bench.proofs.Histories.{work_off_leads_on, settled_agrees}
-use Rattle.bench.proofs.Calls.{foreign_refusal, own_refusal_is, unless_false, unless_true}
+use Rattle.bench.proofs.Calls.{own_refusal_is, unless_true}
 use Rattle.bench.proofs.bench.Bench.work_off.Given as given
-use Rattle.bench.proofs.bench.Bench.work_off.Goals.{After-any_out}
+use Rattle.bench.proofs.bench.Bench.work_off.Goals.{In_ok-going-2}
 use Rattle.bench.proofs.bench.Bench.work_off.Goals as goal
 
 -- a state that fits goes on fitting
@@ -23,57 +24,24 @@ still_fits : (h : Going) (b b' : Bench) → b'.run ≡ b.run → b'.closed ≡ f
 unfolding fits_going
 still_fits h b b' e z f = and_from _ _ (ap (eqb h.run) e ∙ (and_parts (eqb h.run b.run) (not b.closed) f).0) (not_from_false _ z)
 
-pub returns-then-not-admits : goal.returns-then-not-admits
-unfolding fits
-returns-then-not-admits g c =
-    let s = c.args.scheduler.now in
-    let b = bench_of c.args.self.now in
-    let o = foreign_refusal _ (work_off (going_of c.args.going) (λ i. g.S.Scheduler.choice s)) b (sym c.admits.ensures ∙ c.if-not-admits.true) in
-    record {
-      answers = subst (λ (x : Option Refusal). ByRefusal (g.K.ValueKind.kind c.args.self.now.kind.now) g.row.S.Denot g.S.Scheduler.choice g.S.Scheduler.next x (going_of c.args.going) s b (Answer.refused Foreign) s b) (sym o) (refl, refl, refl);
-      back = refl;
-      fits = tt;
-      rests = tt;
-      agrees = tt;
-      leads_on = λ _ _ h. h;
-      kind = refl;
-    }
-
-pub returns-then-any_out : goal.returns-then-any_out
-unfolding bench fits own_refusal
-returns-then-any_out g c =
-    let s = c.args.scheduler.now in
-    let b = bench_of c.args.self.now in
-    let out = sym (c.any_out.ensures (task_at (tasks_of c.args.self.now.tasks))) ∙ c.if-any_out.true in
-    let o = own_refusal_is _ (work_off (going_of c.args.going) (λ i. g.S.Scheduler.choice s)) b (some Unsettled) (sym c.admits.ensures ∙ c.if-not-admits.false) (unless_false _ Unsettled (ap not out)) in
-    record {
-      answers = subst (λ (x : Option Refusal). ByRefusal (g.K.ValueKind.kind c.args.self.now.kind.now) g.row.S.Denot g.S.Scheduler.choice g.S.Scheduler.next x (going_of c.args.going) s b (Answer.refused Unsettled) s b) (sym o) (refl, refl, refl);
-      back = refl;
-      fits = tt;
-      rests = tt;
-      agrees = tt;
-      leads_on = λ _ _ h. h;
-      kind = refl;
-    }
-
-module _ (g : given.Over) (c : After-any_out g) where
+module _ (g : given.Over) (c : In_ok-going-2 g) where
   -- the state is the run's, which goes on
-  fit : c.admits.result ≡ true → fits_going (going_of c.args.going) (bench_of c.args.self.now) ≡ true
-  fit e = sym c.admits.ensures ∙ e
+  fit : fits_going (going_of c.args.going) (bench_of c.args.self.now) ≡ true
+  fit = sym c.admits.ensures ∙ sym c.in_ok-going.ensures.granted
 
-  none_out : c.any_out.result ≡ false → any_out (bench_of c.args.self.now).line ≡ false
+  none_out : not (any_out (bench_of c.args.self.now).line) ≡ true
   unfolding bench
-  none_out e = sym (c.any_out.ensures (task_at (tasks_of c.args.self.now.tasks))) ∙ e
+  none_out = ap not (sym (c.any_out.ensures (task_at (tasks_of c.args.self.now.tasks)))) ∙ sym c.in_ok-going-2.ensures.granted
 
 pub settle-requires : goal.settle-requires
 settle-requires g c =
-    let f = (goal.at.settle-requires g c).After-any_out in
-    record { none_out = none_out g f c.if-any_out.false; going_on = going_open (going_of c.args.going) (bench_of c.args.self.now) (fit g f c.if-not-admits.false) }
+    let f = (goal.at.settle-requires g c).In_ok-going-2 in
+    record { none_out = not-true _ (none_out g f); going_on = going_open (going_of c.args.going) (bench_of c.args.self.now) (fit g f) }
 
 pub returns : goal.returns
 unfolding fits own_refusal
 returns g c =
-    let f = (goal.at.returns g c).After-any_out in
+    let f = (goal.at.returns g c).In_ok-going-2 in
     let s = c.args.scheduler.now in
     let s' = c.settle.new.scheduler in
     let b = bench_of c.args.self.now in
@@ -82,15 +50,17 @@ returns g c =
     let law = g.met.K.ValueKind.lawful c.args.self.now.kind.now in
     let k = g.K.ValueKind.kind c.args.self.now.kind.now in
     let call = going_of c.args.going in
-    let o = own_refusal_is k (work_off call (λ i. g.S.Scheduler.choice s)) b none (fit g f c.if-not-admits.false) (unless_true _ Unsettled (ap not (none_out g f c.if-any_out.false))) in
+    let same : c.in_ok-going-2.going ≡ c.args.going = c.in_ok-going-2.ensures.ok ∙ c.in_ok-going.ensures.ok in
+    let o = own_refusal_is k (work_off call (λ i. g.S.Scheduler.choice s)) b none (fit g f) (unless_true _ Unsettled (none_out g f)) in
     let a : WorkOffAnswers k g.row.S.Denot g.S.Scheduler.choice g.S.Scheduler.next call s b (Answer.going call) s' b'
     = subst (λ (x : Option Refusal). ByRefusal k g.row.S.Denot g.S.Scheduler.choice g.S.Scheduler.next x call s b (Answer.going call) s' b') (sym o) (refl, e.works) in
-    record {
+    subst (λ h. WorksAll k g.S.Scheduler.choice g.S.Scheduler.next c.args.going s c.args.self.now (Ok h) s' c.settle.new.self) (sym same)
+    (record {
       answers = a;
       back = tt;
-      fits = still_fits (going_of c.args.going) b b' e.run e.going_on (fit g f c.if-not-admits.false);
+      fits = still_fits call b b' e.run e.going_on (fit g f);
       rests = e.rests;
       agrees = settled_agrees k law b' e.rests.settled_yet;
       leads_on = work_off_leads_on k law g.row.S.Denot g.S.Scheduler.choice g.S.Scheduler.next g.met.S.Scheduler.inside call s s' b b' (Answer.going call) a;
       kind = e.kind;
-    }
+    })
