@@ -1,9 +1,6 @@
 -- Calls that are refused or granted, and tasks that get another status.
-use Rattle.std.proofs.Common.{◌≡◌, ℕ, Bool, true, false, cond, leb, List, length, [], ◌∷◌, Err, Result, sym, ap, ◌∙◌}
-use mathlib.Core.Option.{Option, none, some}
+use Rattle.std.proofs.Common.{◌≡◌, ℕ, Bool, true, false, cond, leb, List, length, [], ◌∷◌, sym, ap, ◌∙◌, None, Option, Some}
 use Rattle.std.proofs.lemmas.Bool.{cond-true, cond-false}
-use Rattle.std.proofs.lemmas.Result.{err_from_is_err_and}
-use Rattle.std.specs.Result.{IsErrAnd}
 use Rattle.kinds.specs.Kinds.{Kind}
 use Rattle.working.specs.Tasks.{Task}
 use Rattle.runs.specs.declared.refusal.Refusal.{Refusal}
@@ -21,14 +18,9 @@ use Rattle.runs.proofs.Lines.{found}
 use Rattle.runs.proofs.Left.{marked_keeps}
 use Rattle.runs.proofs.Events.{put_found}
 use Rattle.runs.proofs.Refusals.{answer_refused}
-use Rattle.bench.specs.declared.answers.Refused.{Refused}
-
--- a refusal that is handed on
-pub handed_on : {A T : Type 0} {e x : Refused T} (r : Result A (Refused T)) → IsErrAnd r (λ y. y ≡ e) → e ≡ x → r ≡ Err x
-handed_on r h e = let p = err_from_is_err_and r h in p.1 ∙ ap (λ y. Err y) (p.2 ∙ e)
 
 module _ (k : Kind) (x : Call) (b : Bench) where
-  pub foreign_refusal : fits x b ≡ false → refusal k x b ≡ some Foreign
+  pub foreign_refusal : fits x b ≡ false → refusal k x b ≡ Some Foreign
   unfolding refusal
   foreign_refusal e = cond-false (fits x b) _ _ e
 
@@ -39,14 +31,14 @@ module _ (k : Kind) (x : Call) (b : Bench) where
   pub foreign : fits x b ≡ false → answer k x b ≡ (refused Foreign, b)
   foreign e = answer_refused k b x Foreign (foreign_refusal e)
 
-  pub refused_own : (r : Refusal) → fits x b ≡ true → own_refusal k x b ≡ some r → answer k x b ≡ (refused r, b)
-  refused_own r e h = answer_refused k b x r (own_refusal_is (some r) e h)
+  pub refused_own : (r : Refusal) → fits x b ≡ true → own_refusal k x b ≡ Some r → answer k x b ≡ (refused r, b)
+  refused_own r e h = answer_refused k b x r (own_refusal_is (Some r) e h)
 
-pub unless_false : (t : Bool) (r : Refusal) → t ≡ false → unless t r ≡ some r
+pub unless_false : (t : Bool) (r : Refusal) → t ≡ false → unless t r ≡ Some r
 unfolding unless
 unless_false t r e = ap (λ (x : Bool). unless x r) e
 
-pub unless_true : (t : Bool) (r : Refusal) → t ≡ true → unless t r ≡ none
+pub unless_true : (t : Bool) (r : Refusal) → t ≡ true → unless t r ≡ None
 unfolding unless
 unless_true t r e = ap (λ (x : Bool). unless x r) e
 
@@ -56,7 +48,7 @@ unfolding own_refusal
 close_unsettled k g b e h = refused_own k (close g) b Unsettled e (unless_false _ Unsettled h)
 
 -- task n, which is t, goes from status u to v, and the line with it to line'
-module _ (r : ℕ) (m : List ℕ) (line line' : List Member) (c steps : ℕ) (z : Bool) (n : ℕ) (t : Task) (u v : Status) (granted : Bool) (yes : granted ≡ true) (here : find n line ≡ some (member n u t)) (is : line' ≡ cond granted (replace n (member n v t ∷ []) line) line) where
+module _ (r : ℕ) (m : List ℕ) (line line' : List Member) (c steps : ℕ) (z : Bool) (n : ℕ) (t : Task) (u v : Status) (granted : Bool) (yes : granted ≡ true) (here : find n line ≡ Some (member n u t)) (is : line' ≡ cond granted (replace n (member n v t ∷ []) line) line) where
   replaced : line' ≡ replace n (member n v t ∷ []) line
   replaced = is ∙ cond-true granted _ _ yes
 
@@ -70,7 +62,7 @@ module _ (r : ℕ) (m : List ℕ) (line line' : List Member) (c steps : ℕ) (z 
 
 -- the sheet call
 module _ (k : Kind) (z : Closed) (buffer : List ℕ) (b : Bench) where
-  pub sheet_refused : (r : Refusal) → refusal k (sheet z buffer) b ≡ some r → sheet_call k z buffer b ≡ (refused r, buffer)
+  pub sheet_refused : (r : Refusal) → refusal k (sheet z buffer) b ≡ Some r → sheet_call k z buffer b ≡ (refused r, buffer)
   unfolding sheet_call answered
   sheet_refused r e = ap (λ (o : Option Refusal). answered o buffer (write_out (bench_sheet k b) buffer)) e
 
@@ -79,8 +71,8 @@ module _ (k : Kind) (z : Closed) (buffer : List ℕ) (b : Bench) where
 
   pub sheet_too_long : fits (sheet z buffer) b ≡ true → leb (length (bench_sheet k b)) (length buffer) ≡ false → sheet_call k z buffer b ≡ (refused BufferTooShort, buffer)
   unfolding own_refusal too_long
-  sheet_too_long e long = sheet_refused BufferTooShort (own_refusal_is k (sheet z buffer) b (some BufferTooShort) e (unless_false _ BufferTooShort long))
+  sheet_too_long e long = sheet_refused BufferTooShort (own_refusal_is k (sheet z buffer) b (Some BufferTooShort) e (unless_false _ BufferTooShort long))
 
-  pub sheet_granted : refusal k (sheet z buffer) b ≡ none → sheet_call k z buffer b ≡ write_out (bench_sheet k b) buffer
+  pub sheet_granted : refusal k (sheet z buffer) b ≡ None → sheet_call k z buffer b ≡ write_out (bench_sheet k b) buffer
   unfolding sheet_call answered
   sheet_granted e = ap (λ (o : Option Refusal). answered o buffer (write_out (bench_sheet k b) buffer)) e

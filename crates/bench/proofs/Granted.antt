@@ -1,6 +1,5 @@
 -- Calls that must be granted.
-use Rattle.std.proofs.Common.{◌≡◌, ℕ, true, false, List, is_ok, Ok, Err, Result, sym, refl, ap, ◌∙◌, subst, arith}
-use mathlib.Core.Option.{Option, none}
+use Rattle.std.proofs.Common.{◌≡◌, ℕ, true, false, List, is_ok, Ok, Err, Result, sym, refl, ap, ◌∙◌, subst, arith, None, Option}
 use Rattle.std.proofs.lemmas.Bool.{and_from, eq-eqb, not_from_false}
 use Rattle.kinds.specs.Kinds.{Kind}
 use Rattle.cards.specs.Code.{Card}
@@ -43,7 +42,7 @@ unfolding fits own_refusal
 work_off_ok {S = S} {k = k} {choice = choice} {next = next} {g = g} {s = s} {s' = s'} {b = b} {b' = b'} {r = r} c i e d w =
     let fit : fits_going (going_of g) (bench_of b) ≡ true = ap (λ h. fits_going h (bench_of b)) d ∙ ap (fits_going (going_state i)) e ∙ opened_fits k c i in
     let out : any_out (bench_of b).line ≡ false = ap (λ (v : Model.Bench). any_out v.line) e ∙ none_out_opened k c i in
-    let o = own_refusal_is k (work_off (going_of g) (λ j. choice s)) (bench_of b) none fit (unless_true _ Unsettled (not_from_false _ out)) in
+    let o = own_refusal_is k (work_off (going_of g) (λ j. choice s)) (bench_of b) None fit (unless_true _ Unsettled (not_from_false _ out)) in
     let a = subst (λ (x : Option Refusal). ByRefusal k S choice next x (going_of g) s (bench_of b) (answer_of (λ h. Answer.going (going_of h)) r) s' (bench_of b')) o w.answers in
     not_refused (λ h. Answer.going (going_of h)) r (λ x q. let p = a.0 in let z : ◌≡◌ {A = ℕ} 0 1 = cc in omega arith)
 

@@ -1,7 +1,5 @@
 -- A pick from what is offered.
-use Rattle.std.proofs.Common.{◌≡◌, ℕ, ◌<◌, ◌≤◌, true, false, List, [], ◌∷◌, length, get_or, take, is_some, Some, sym, refl, ap, ⊎_elim, arith, length-take}
-use mathlib.Core.Option.{none, some}
-use Rattle.std.proofs.lemmas.List.{get_or-take}
+use Rattle.std.proofs.Common.{◌≡◌, ℕ, ◌<◌, true, false, List, [], ◌∷◌, length, is_some, Some, refl, ap, ⊎_elim, arith, None}
 use Rattle.std.proofs.lemmas.Bool.{both_ways}
 use Rattle.schedulers.specs.Schedulers.{picked}
 use Rattle.runs.specs.declared.refusal.Refusal.TheVariants.{NothingToOffer}
@@ -23,11 +21,11 @@ unsettled_offers b s o = go (offer b) (λ e. nothing_settles b e s o)
     go [] h = absurd (h refl)
     go (n ∷ ns) h = omega arith
 
-pub refuses_nothing : (ns : List ℕ) → ns ≡ [] → unless (not_empty ns) NothingToOffer ≡ some NothingToOffer
+pub refuses_nothing : (ns : List ℕ) → ns ≡ [] → unless (not_empty ns) NothingToOffer ≡ Some NothingToOffer
 unfolding unless not_empty
 refuses_nothing ns e = ap (λ (l : List ℕ). unless (not_empty l) NothingToOffer) e
 
-pub grants_some : (ns : List ℕ) → 0 < length ns → unless (not_empty ns) NothingToOffer ≡ none
+pub grants_some : (ns : List ℕ) → 0 < length ns → unless (not_empty ns) NothingToOffer ≡ None
 unfolding unless not_empty
 grants_some [] h = absurd (omega arith)
 grants_some (n ∷ ns) h = refl
@@ -51,15 +49,3 @@ module _ (f : List ℕ → ℕ) (ns : List ℕ) (more : 0 < length ns) where
 
   pub place_below : Chooses f → (place : ℕ) → picked f ns ≡ Some place → place < length ns
   place_below law place is = omega (arith, place_is place is, chosen_below f law ns more)
-
--- The front of a row of 64.
-
-module _ (row : List ℕ) (count : ℕ) (long : length row ≡ 64) (few : count ≤ 64) where
-  front : length (take count row) ≡ count
-  front = simp length-take (omega arith)
-
-  pub front_some : (count ≡ 0 → ⊥) → 0 < length (take count row)
-  front_some more = omega (arith, front)
-
-  pub front_at : (place : ℕ) → place < length (take count row) → get_or row place 0 ≡ get_or (take count row) place 0
-  front_at place lt = sym (get_or-take count row place 0 (omega (arith, lt, front)))

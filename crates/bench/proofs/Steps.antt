@@ -1,10 +1,12 @@
 -- A step by the code is a step of the model.
-use Rattle.std.proofs.Common.{◌≡◌, ℕ, ◌+◌, ◌<◌, ◌≤◌, Bool, true, false, List, [], ◌∷◌, ◌++◌, length, set, is_some, Some, None, Option, sym, refl, ap, ◌∙◌, subst, arith}
-use mathlib.Core.Option.{Option as Maybe, some, Option-elim}
+use Rattle.std.proofs.Common.{◌≡◌, ℕ, ◌+◌, ◌<◌, ◌≤◌, Bool, true, false, List, [], ◌∷◌, ◌++◌, length, set, is_some, is_ok, IsOkAnd, MatchResult, Some, None, Ok, Err, Option, Result, sym, refl, ap, ◌∙◌, subst, arith}
 use Rattle.std.specs.List.{slice_get}
+use Rattle.std.specs.Option.{option_map_or}
+use Rattle.std.specs.Int.{from_bool}
 use Rattle.std.proofs.lemmas.List.{length-set, length-append}
 use Rattle.kinds.specs.Kinds.{Kind}
 use Rattle.working.specs.declared.declared.Declared.{Declared}
+use Rattle.working.specs.declared.fault.Fault.{Fault}
 use Rattle.working.specs.Tasks.{Task, level}
 use Rattle.working.specs.Requests.{goes, makes, Request, fault, quiet, read, write, join, request, stored, Reply, faulted, stepped, reply}
 use Rattle.working.specs.Serial.{segment}
@@ -22,10 +24,10 @@ use Rattle.runs.proofs.Events.{put_found, advanced_found}
 use Rattle.runs.proofs.Turns.{marked_find}
 use Rattle.tasks.specs.declared.tasks.Tasks.{Tasks}
 use Rattle.tasks.specs.declared.step.Progress.{Progress}
-use Rattle.tasks.specs.declared.step.Progress.TheVariants.{Fault, Went, Amended, Finished, Made}
+use Rattle.tasks.specs.declared.step.Progress.TheVariants.{Went, Amended, Finished, Made}
 use Rattle.tasks.specs.Views.{store_of, tasks_of, declared_by}
 use Rattle.tasks.specs.Steps.{after, Says, StepOf, Steps}
-use Rattle.tasks.proofs.Numbered.{nth_set, length_tasks}
+use Rattle.tasks.proofs.Numbered.{get_set, length_tasks}
 use Rattle.tasks.proofs.Arms.{stored_fault}
 use Rattle.tasks.proofs.Sized.{declared_sized}
 use Rattle.lines.specs.declared.line.Line.{Line}
@@ -35,7 +37,6 @@ use Rattle.lines.proofs.Sames.{equal_declarations}
 use Rattle.bench.specs.Tasks.{task_at}
 use Rattle.bench.specs.Follows.{declared_at, Narrowed, RoomFor, FitsLine, added, Followed}
 use Rattle.bench.specs.Views.{performed}
-use Rattle.bench.specs.Advances.{come_of, steps_of}
 use Rattle.bench.proofs.TasksAt.{at_known}
 use Rattle.bench.proofs.Followed.{in_place, tasks_made, Follows, follows, declares}
 
@@ -53,12 +54,12 @@ nth_last (t ∷ ts) u = nth_last ts u
 
 -- A task that was made steps.
 
-pub some_step : (k : Kind) (n : ℕ) (s s' : Tasks) (o : Option Progress) → n < length (tasks_of s) → Steps k n s o s' → is_some o ≡ true
+pub some_step : (k : Kind) (n : ℕ) (s s' : Tasks) (o : Option (Result Progress Fault)) → n < length (tasks_of s) → Steps k n s o s' → is_some o ≡ true
 some_step k n s s' None lt h = absurd (omega (arith, h.0))
 some_step k n s s' (Some a) lt h = refl
 
-pub step_of : (k : Kind) (n : ℕ) (s s' : Tasks) (o : Option Progress) (a : Progress) → o ≡ Some a → Steps k n s o s' → (t : Task) × StepOf k n t s a s'
-step_of k n s s' o a e h = subst (λ (x : Option Progress). Steps k n s x s') e h
+pub step_of : (k : Kind) (n : ℕ) (s s' : Tasks) (o : Option (Result Progress Fault)) (a : Result Progress Fault) → o ≡ Some a → Steps k n s o s' → (t : Task) × StepOf k n t s a s'
+step_of k n s s' o a e h = subst (λ (x : Option (Result Progress Fault)). Steps k n s x s') e h
 
 -- What is answered.
 
@@ -66,28 +67,36 @@ unfoldable counted : Reply → ℕ
 counted (faulted f l) = 0
 counted (stepped x) = 1
 
-told_answer : (c : ℕ) (a : Progress) (q : Reply) → Says c a q → performed (come_of a) ≡ reply_answer q
+-- of what a step came to, whether it is done
+abbrev pub come_of : Result Progress Fault → Result (Unit {0}) Fault
+come_of (Ok a) = Ok tt
+come_of (Err f) = Err f
+
+-- what mapping it to no value gives
+pub mapped : (P : Progress → Unit {0} → Type 0) (a : Result Progress Fault) (r : Result (Unit {0}) Fault) → MatchResult a (λ x. IsOkAnd r (P x)) (λ e. r ≡ Err e) → r ≡ come_of a
+mapped P (Ok a) (Ok u) h = refl
+mapped P (Ok a) (Err f) h = absurd h
+mapped P (Err f) r h = h
+
+told_answer : (c : ℕ) (a : Result Progress Fault) (q : Reply) → Says c a q → performed (come_of a) ≡ reply_answer q
 unfolding reply_answer
-told_answer c (Fault f l) q e = ap reply_answer (sym e)
-told_answer c Went q e = ap reply_answer (sym e.1)
-told_answer c Amended q e = ap reply_answer (sym e.1)
-told_answer c Finished q e = ap reply_answer (sym e)
-told_answer c (Made n) q e = ap reply_answer (sym e.2)
+told_answer c (Err f) q e = ap reply_answer (sym e)
+told_answer c (Ok Went) q e = ap reply_answer (sym e.1)
+told_answer c (Ok Amended) q e = ap reply_answer (sym e.1)
+told_answer c (Ok Finished) q e = ap reply_answer (sym e)
+told_answer c (Ok (Made n)) q e = ap reply_answer (sym e.2)
 
-told_steps : (c : ℕ) (a : Progress) (q : Reply) → Says c a q → steps_of (come_of a) ≡ counted q
+told_steps : (c : ℕ) (a : Result Progress Fault) (q : Reply) → Says c a q → from_bool (is_ok a) ≡ counted q
 unfolding counted
-told_steps c (Fault f l) q e = ap counted (sym e)
-told_steps c Went q e = ap counted (sym e.1)
-told_steps c Amended q e = ap counted (sym e.1)
-told_steps c Finished q e = ap counted (sym e)
-told_steps c (Made n) q e = ap counted (sym e.2)
+told_steps c (Err f) q e = ap counted (sym e)
+told_steps c (Ok Went) q e = ap counted (sym e.1)
+told_steps c (Ok Amended) q e = ap counted (sym e.1)
+told_steps c (Ok Finished) q e = ap counted (sym e)
+told_steps c (Ok (Made n)) q e = ap counted (sym e.2)
 
-pub one_step : (a : Progress) → steps_of (come_of a) ≤ 1
-one_step (Fault f l) = omega arith
-one_step Went = omega arith
-one_step Amended = omega arith
-one_step Finished = omega arith
-one_step (Made n) = omega arith
+pub one_step : (a : Result Progress Fault) → from_bool (is_ok a) ≤ 1
+one_step (Ok a) = omega arith
+one_step (Err f) = omega arith
 
 -- the steps made and those left are within the bound again
 pub within_after : (steps more before after : ℕ) → more ≤ 1 → steps + before ≤ 1_000_000 → after < before → steps + more + after ≤ 1_000_000
@@ -114,7 +123,7 @@ module _ (k : Kind) (n : ℕ) (t : Task) (s s' : Tasks) (l : Line) (tells : Tell
   store_length e = ap length e ∙ length_stored k (store_of s) (request k t)
 
   -- a task that the step leaves holds no more than the one that made it
-  narrowed : {a : Progress} → StepOf k n t s a s' → (i : ℕ) (u : Task) → slice_get (tasks_of s') i ≡ Some u → Within t u → Narrowed l n (declared_at (tasks_of s') i)
+  narrowed : {a : Result Progress Fault} → StepOf k n t s a s' → (i : ℕ) (u : Task) → slice_get (tasks_of s') i ≡ Some u → Within t u → Narrowed l n (declared_at (tasks_of s') i)
   narrowed h i u e w =
       let known = at_known (tasks_of s) n t h.known in
       subst (λ (o : Option Task). Narrowed l n (declared_by o)) (sym e)
@@ -123,7 +132,7 @@ module _ (k : Kind) (n : ℕ) (t : Task) (s s' : Tasks) (l : Line) (tells : Tell
         narrower = λ o b z. w o b (ap (λ (ds : List Declared). level ds o b) (sym (own_declared known)) ∙ z);
       })
 
-  room : {a : Progress} → StepOf k n t s a s' → (c : ℕ) (u v : Task) → reply (store_of s) (request k t) ≡ stepped (makes u v) → c ≡ length (tasks_of s) → RoomFor l n c (declared_at (tasks_of s') c)
+  room : {a : Result Progress Fault} → StepOf k n t s a s' → (c : ℕ) (u v : Task) → reply (store_of s) (request k t) ≡ stepped (makes u v) → c ≡ length (tasks_of s) → RoomFor l n c (declared_at (tasks_of s') c)
   unfolding after segment
   room h c u v e d =
       let ts = tasks_of s in
@@ -137,19 +146,19 @@ module _ (k : Kind) (n : ℕ) (t : Task) (s s' : Tasks) (l : Line) (tells : Tell
         narrowed = narrowed h c u child (fine_reply k (store_of s) t (makes u v) e).within.0;
       }
 
-  pub fits_line : (a : Progress) → StepOf k n t s a s' → FitsLine l (tasks_of s') n a
+  pub fits_line : (a : Result Progress Fault) → StepOf k n t s a s' → FitsLine l (tasks_of s') n a
   unfolding after segment
-  fits_line (Fault f at) h = tt
-  fits_line Went h = tt
-  fits_line Amended h =
+  fits_line (Err f) h = tt
+  fits_line (Ok Went) h = tt
+  fits_line (Ok Amended) h =
       let u = h.answer.0 in
       let e = h.answer.1 in
-      narrowed h n u (ap (λ (xs : List Task). slice_get xs n) (h.tasks ∙ ap (after n (tasks_of s)) e) ∙ nth_set (tasks_of s) n t u h.known) (fine_reply k (store_of s) t (goes u) e).within.0
-  fits_line Finished h = tt
-  fits_line (Made c) h = room h c h.answer.0 h.answer.1 h.answer.2 h.answer.3
+      narrowed h n u (ap (λ (xs : List Task). slice_get xs n) (h.tasks ∙ ap (after n (tasks_of s)) e) ∙ get_set (tasks_of s) n t u h.known) (fine_reply k (store_of s) t (goes u) e).within.0
+  fits_line (Ok Finished) h = tt
+  fits_line (Ok (Made c)) h = room h c h.answer.0 h.answer.1 h.answer.2 h.answer.3
 
   -- ... and the line is l' after it
-  module _ (a : Progress) (h : StepOf k n t s a s') (l' : Line) (f : Followed (tasks_of s') n a l l') where
+  module _ (a : Result Progress Fault) (h : StepOf k n t s a s') (l' : Line) (f : Followed (tasks_of s') n a l l') where
     follow : Follows n t (tasks_of s) (tasks_of s') a (reply (store_of s) (request k t))
     follow = follows n t (tasks_of s) h.known (tasks_of s') a (reply (store_of s) (request k t)) h.answer h.tasks
 
@@ -168,15 +177,15 @@ module _ (k : Kind) (n : ℕ) (t : Task) (s s' : Tasks) (l : Line) (tells : Tell
         ∙ ap (λ (new : List Member). replace n new (line_of l (task_at (tasks_of s)))) follow.stands
 
     -- its status was v
-    module _ (r steps : ℕ) (z : Bool) (v : Status) (found_own : find n (line_of l (task_at (tasks_of s))) ≡ some (member n v (task_at (tasks_of s) n))) where
+    module _ (r steps : ℕ) (z : Bool) (v : Status) (found_own : find n (line_of l (task_at (tasks_of s))) ≡ Some (member n v (task_at (tasks_of s) n))) where
       abbrev was : Bench
       was = bench r (store_of s) (line_of l (task_at (tasks_of s))) (length (tasks_of s)) steps z
 
       abbrev came : Bench
-      came = bench r (store_of s') (line_of l' (task_at (tasks_of s'))) (length (tasks_of s')) (steps + steps_of (come_of a)) z
+      came = bench r (store_of s') (line_of l' (task_at (tasks_of s'))) (length (tasks_of s')) (steps + from_bool (is_ok a)) z
 
-      here : find n (line_of l (task_at (tasks_of s))) ≡ some (member n v t)
-      here = found_own ∙ ap (λ (u : Task). some (member n v u)) (at_known (tasks_of s) n t h.known)
+      here : find n (line_of l (task_at (tasks_of s))) ≡ Some (member n v t)
+      here = found_own ∙ ap (λ (u : Task). Some (member n v u)) (at_known (tasks_of s) n t h.known)
 
       -- with any line in which the same stands in the place of task n
       came_is : (line : List Member) → replace n (in_place n (length (tasks_of s)) t (reply (store_of s) (request k t))) line ≡ replace n (in_place n (length (tasks_of s)) t (reply (store_of s) (request k t))) (line_of l (task_at (tasks_of s)))
@@ -188,18 +197,18 @@ module _ (k : Kind) (n : ℕ) (t : Task) (s s' : Tasks) (l : Line) (tells : Tell
       -- its turn was out
       pub out_steps : v ≡ out → came ≡ advanced k n was
       unfolding step replied bench member
-      out_steps e = came_is (line_of l (task_at (tasks_of s))) refl ∙ sym (advanced_found k n was (member n out t) (here ∙ ap (λ (u : Status). some (member n u t)) e))
+      out_steps e = came_is (line_of l (task_at (tasks_of s))) refl ∙ sym (advanced_found k n was (member n out t) (here ∙ ap (λ (u : Status). Some (member n u t)) e))
 
       pub out_answers : v ≡ out → performed (come_of a) ≡ step_answer k n was
-      unfolding step_answer replied bench member Option-elim
+      unfolding step_answer replied bench member
       out_answers e =
           told_answer (length (tasks_of s)) a (reply (store_of s) (request k t)) h.answer
-          ∙ sym (ap (λ (o : Maybe Member). Option-elim o (Answer.refused Foreign) (λ s. reply_answer (replied k was s))) (here ∙ ap (λ (u : Status). some (member n u t)) e))
+          ∙ sym (ap (λ (o : Option Member). option_map_or (λ s. reply_answer (replied k was s)) o (Answer.refused Foreign)) (here ∙ ap (λ (u : Status). Some (member n u t)) e))
 
       pub out_falls : v ≡ out → left (line_of l' (task_at (tasks_of s'))) < left (line_of l (task_at (tasks_of s)))
       unfolding bench member
       out_falls e =
-          let there = here ∙ ap (λ (u : Status). some (member n u t)) e in
+          let there = here ∙ ap (λ (u : Status). Some (member n u t)) e in
           omega (
             arith,
             step_falls k was (member n out t) (found n (line_of l (task_at (tasks_of s))) (member n out t) there) refl,
@@ -210,7 +219,7 @@ module _ (k : Kind) (n : ℕ) (t : Task) (s s' : Tasks) (l : Line) (tells : Tell
       taken : Bench
       taken = marked was (member n v t) out
 
-      taken_there : find n taken.line ≡ some (member n out t)
+      taken_there : find n taken.line ≡ Some (member n out t)
       unfolding taken bench with_status member
       taken_there = marked_find was (member n v t) out here
 

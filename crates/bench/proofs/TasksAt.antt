@@ -2,15 +2,19 @@
 use Rattle.std.proofs.Common.{◌≡◌, ℕ, zero, suc, ◌<◌, List, [], ◌∷◌, ◌++◌, length, set, Some, refl, ap}
 use Rattle.std.specs.List.{slice_get}
 use Rattle.std.proofs.lemmas.List.{get_or-set_same, get_or-set_other}
+use Rattle.std.proofs.lemmas.Option.{get_or_from_slice_get, slice_get-get_or}
 use Rattle.working.specs.Tasks.{Task}
 use Rattle.lines.specs.Stored.{declaring}
 use Rattle.tasks.specs.Views.{declared_by}
-use Rattle.tasks.proofs.Numbered.{getD_known}
 use Rattle.bench.specs.Tasks.{task_at}
 
 pub at_known : (ts : List Task) (n : ℕ) (t : Task) → slice_get ts n ≡ Some t → task_at ts n ≡ t
 unfolding task_at
-at_known ts n t e = getD_known ts n t (declaring []) e
+at_known ts n t e = get_or_from_slice_get ts n t (declaring []) e
+
+pub at_there : (ts : List Task) (n : ℕ) → n < length ts → slice_get ts n ≡ Some (task_at ts n)
+unfolding task_at
+at_there ts n lt = slice_get-get_or ts n (declaring []) lt
 
 pub at_declared : (ts : List Task) (n : ℕ) → (task_at ts n).declared ≡ declared_by (slice_get ts n)
 unfolding task_at declaring

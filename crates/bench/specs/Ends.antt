@@ -1,5 +1,5 @@
 -- What working off and closing answer and leave.
-use Rattle.std.specs.Prelude.{◌≡◌, ℕ, ◌<◌, true, false, List, Result}
+use Rattle.std.specs.Prelude.{◌≡◌, ℕ, ◌<◌, true, false, List, IfOk, Result}
 use Rattle.kinds.specs.Kinds.{Kind}
 use Rattle.cards.specs.Code.{Card}
 use Rattle.runs.specs.Lines.{any_out}
@@ -15,7 +15,7 @@ use Rattle.bench.specs.declared.bench.Bench.{Bench}
 use Rattle.bench.specs.declared.tokens.Going.{Going}
 use Rattle.bench.specs.declared.tokens.Closed.{Closed}
 use Rattle.bench.specs.declared.answers.Refused.{Refused}
-use Rattle.bench.specs.Views.{bench_of, going_of, closed_of, IfGranted, answer_of}
+use Rattle.bench.specs.Views.{bench_of, going_of, closed_of, answer_of}
 use Rattle.bench.specs.Histories.{History, LeadsOn}
 use Rattle.bench.specs.Turns.{HandedBack}
 
@@ -56,16 +56,16 @@ pub record WorksAll {K S : Type 0} (k : Kind) (choice : S → List ℕ → ℕ) 
   pub answers : WorkOffAnswers k S choice next (going_of g) s (bench_of b) (answer_of (λ h. Answer.going (going_of h)) r) s' (bench_of b')
   pub back : HandedBack g r
   -- a granted call leaves a bench that can close with the state that is given on, and that agrees with serial working
-  pub fits : IfGranted r (λ h. fits_going (going_of h) (bench_of b') ≡ true)
-  pub rests : IfGranted r (λ _. Rests (bench_of b'))
-  pub agrees : IfGranted r (λ _. AgreesAlways k (bench_of b'))
+  pub fits : IfOk r (λ h. fits_going (going_of h) (bench_of b') ≡ true)
+  pub rests : IfOk r (λ _. Rests (bench_of b'))
+  pub agrees : IfOk r (λ _. AgreesAlways k (bench_of b'))
   pub leads_on : LeadsOn k (bench_of b) (bench_of b')
   pub kind : b'.kind ≡ b.kind
 
 pub record Closes {K : Type 0} (k : Kind) (g : Going) (b : Bench K) (r : Result Closed (Refused Going)) (b' : Bench K) : Type 0 where
   pub answers : answer k (close (going_of g)) (bench_of b) ≡ (answer_of (λ z. Answer.closed (closed_of z)) r, bench_of b')
   pub back : HandedBack g r
-  pub fits : IfGranted r (λ z. fits_closed (closed_of z) (bench_of b') ≡ true)
-  pub agrees : IfGranted r (λ _. AgreesAlways k (bench_of b'))
+  pub fits : IfOk r (λ z. fits_closed (closed_of z) (bench_of b') ≡ true)
+  pub agrees : IfOk r (λ _. AgreesAlways k (bench_of b'))
   pub leads_on : LeadsOn k (bench_of b) (bench_of b')
   pub kind : b'.kind ≡ b.kind

@@ -1,7 +1,7 @@
 -- What taking, performing and handing back a turn answer and leave.
-use Rattle.std.specs.Prelude.{◌≡◌, ℕ, ◌<◌, true, false, List, [], length, is_ok, Some, None, Ok, Err, Option, Result}
-use Rattle.std.proofs.Math.Option.{some}
+use Rattle.std.specs.Prelude.{◌≡◌, ℕ, ◌<◌, true, false, List, [], length, is_ok, IfOk, Some, None, Ok, Err, Option, Result}
 use Rattle.kinds.specs.Kinds.{Kind}
+use Rattle.working.specs.declared.fault.Fault.{Fault}
 use Rattle.runs.specs.declared.refusal.Refusal.{Refusal}
 use Rattle.runs.specs.Lines.{out, Member, find, any_out}
 use Rattle.runs.specs.Ready.{ready}
@@ -15,9 +15,8 @@ use Rattle.runs.specs.Answers.{answer}
 use Rattle.bench.specs.declared.bench.Bench.{Bench}
 use Rattle.bench.specs.declared.tokens.Going.{Going}
 use Rattle.bench.specs.declared.tokens.Turn.{Turn}
-use Rattle.bench.specs.declared.answers.Performed.{Performed}
 use Rattle.bench.specs.declared.answers.Refused.{Refused}
-use Rattle.bench.specs.Views.{bench_of, going_of, turn_of, IfGranted, answer_of, taken, performed}
+use Rattle.bench.specs.Views.{bench_of, going_of, turn_of, answer_of, taken, performed}
 use Rattle.bench.specs.Histories.{LeadsOn}
 
 -- what was given up is handed back with a refusal
@@ -48,7 +47,7 @@ pub record Takes {K S : Type 0} (k : Kind) (choice : S → List ℕ → ℕ) (ne
   pub answers : answer k (take (going_of g) (choice s)) (bench_of b) ≡ (taken r, bench_of b')
   pub scheduler : Picked next (offer (bench_of b)) s r s'
   -- the turn that it gives is out
-  pub fits : IfGranted r (λ t. fits_turn (turn_of t) (bench_of b') ≡ true)
+  pub fits : IfOk r (λ t. fits_turn (turn_of t) (bench_of b') ≡ true)
   -- unless the run is settled or a turn is out, it is granted
   pub goes_on : fits_going (going_of g) (bench_of b) ≡ true → settled (bench_of b) ≡ false → any_out (bench_of b).line ≡ false → is_ok r ≡ true
   pub leads_on : LeadsOn k (bench_of b) (bench_of b')
@@ -56,13 +55,13 @@ pub record Takes {K S : Type 0} (k : Kind) (choice : S → List ℕ → ℕ) (ne
 
 -- task n stands in the line, and is ready
 abbrev pub Ready : ℕ → List Member → Type 0
-Ready n line = (s : Member) × (find n line ≡ some s) × (ready line s ≡ true)
+Ready n line = (s : Member) × (find n line ≡ Some s) × (ready line s ≡ true)
 
-pub record Performs {K : Type 0} (k : Kind) (t : Turn) (b : Bench K) (r : Result Performed (Refused Turn)) (b' : Bench K) : Type 0 where
+pub record Performs {K : Type 0} (k : Kind) (t : Turn) (b : Bench K) (r : Result (Result (Unit {0}) Fault) (Refused Turn)) (b' : Bench K) : Type 0 where
   pub answers : answer k (perform (turn_of t)) (bench_of b) ≡ (answer_of performed r, bench_of b')
   pub back : HandedBack t r
   -- a turn that is performed is of a ready task
-  pub was_ready : IfGranted r (λ _. Ready t.task (bench_of b).line)
+  pub was_ready : IfOk r (λ _. Ready t.task (bench_of b).line)
   pub leads_on : LeadsOn k (bench_of b) (bench_of b')
   pub kind : b'.kind ≡ b.kind
 

@@ -1,5 +1,6 @@
 -- What values of the types stand for.
 use Rattle.std.specs.Prelude.{length, Ok, Err, Result}
+use Rattle.working.specs.declared.fault.Fault.{Fault}
 use Rattle.runs.specs.declared.refusal.Refusal.{Refusal}
 use Rattle.runs.specs.Benches as Model
 use Rattle.runs.specs.Calls as Call
@@ -10,8 +11,6 @@ use Rattle.bench.specs.declared.bench.Bench.{Bench}
 use Rattle.bench.specs.declared.tokens.Going.{Going}
 use Rattle.bench.specs.declared.tokens.Closed.{Closed}
 use Rattle.bench.specs.declared.tokens.Turn.{Turn}
-use Rattle.bench.specs.declared.answers.Performed.{Performed}
-use Rattle.bench.specs.declared.answers.Performed.TheVariants.{Done, Fault}
 use Rattle.bench.specs.declared.answers.Refused.{Refused}
 use Rattle.bench.specs.Tasks.{task_at}
 
@@ -28,11 +27,6 @@ closed_of z = Call.closed_state z.run
 abbrev pub turn_of : Turn → Call.Turn
 turn_of t = Call.turn_of t.run t.task
 
--- what a granted call gives fits the bench after it
-abbrev pub IfGranted : {A E : Type 0} → Result A E → (A → Type 0) → Type 0
-IfGranted (Ok x) P = P x
-IfGranted (Err e) P = Unit {0}
-
 -- what a call answers: what it gives where it is granted, or the refusal
 abbrev pub answer_of : {A T : Type 0} → (A → Answer) → Result A (Refused T) → Answer
 answer_of f (Ok x) = f x
@@ -42,6 +36,6 @@ abbrev pub taken : Result Turn Refusal → Answer
 taken (Ok t) = Answer.turn (turn_of t)
 taken (Err r) = Answer.refused r
 
-abbrev pub performed : Performed → Answer
-performed Done = Answer.done
-performed (Fault f l) = Answer.fault f l
+abbrev pub performed : Result (Unit {0}) Fault → Answer
+performed (Ok u) = Answer.done
+performed (Err f) = Answer.fault f.kind f.line

@@ -7,14 +7,17 @@ ghost use Rattle.lines.specs.Lines.{line_of};
 ghost use Rattle.bench.specs.Views.{bench_of};
 ghost use Rattle.bench.specs.Ends.{AtWork, TurnsOnce, Working, Settles, WorksAll, Closes};
 
-use crate::answers::{Performed, Refused};
+use crate::answers::Refused;
 use crate::bench::Bench;
+use crate::choose::choose;
 use crate::follow::follow_waiting;
 use crate::tokens::{Closed, Going};
 use kinds::ValueKind;
 use runs::Refusal;
 use schedulers::Scheduler;
 
+// `AtWork` is asked of three calls, and no type has it: each call of a struct that lends the bench would have to say that
+// it lends the same bench still.
 impl<'c, K: ValueKind> Bench<'c, K> {
     // Takes and performs the turn that the scheduler chooses from what is offered, and tells whether what is offered
     // stays as it is.
@@ -25,11 +28,10 @@ impl<'c, K: ValueKind> Bench<'c, K> {
         ensures turns { TurnsOnce (K.kind self.old.kind.now) S.choice S.next scheduler.old self.old scheduler.new self.new }
         ensures stays { result ≡ true → self.new.line ≡ self.old.line }
     {
-        let place = scheduler.pick(offered).unwrap();
-        let n = offered[place];
+        let n = choose(scheduler, offered);
         let progress = self.tasks.step(self.kind, n).unwrap();
         let stays = follow_waiting(&mut self.line, &self.tasks, n, progress);
-        self.steps += Performed::of(progress).steps();
+        self.steps += u32::from(progress.is_ok());
         stays
     }
 
@@ -41,8 +43,8 @@ impl<'c, K: ValueKind> Bench<'c, K> {
         ensures falls { left (bench_of self.new).line < left (bench_of self.old).line }
     {
         let mut row = [0; 64];
-        let count = self.line.offer(&mut row);
-        while self.turn(&row[..count], scheduler) {}
+        let offered = self.line.offer(&mut row);
+        while self.turn(offered, scheduler) {}
     }
 
     // Takes and performs turns until the run is settled.

@@ -4,6 +4,7 @@
 mod advance;
 mod answers;
 mod bench;
+mod choose;
 mod ends;
 mod follow;
 mod open;
@@ -11,6 +12,6 @@ mod page;
 mod tokens;
 mod turns;
 
-pub use answers::{Performed, Refused};
+pub use answers::Refused;
 pub use bench::Bench;
 pub use tokens::{Closed, Going, Turn};

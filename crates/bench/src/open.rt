@@ -23,7 +23,7 @@ impl<'c, K: ValueKind> Bench<'c, K> {
         ensures { IfOk result (λ p. Opens (K.kind kind.now) (card_of card.now) run kind.now p.0 p.1) }
     {
         let tasks = Tasks::open(heap, kind, card)?;
-        let line = Line::declaring(heap, tasks.declared(0))?;
+        let line = Line::new(heap, tasks.declared(0))?;
         let page = Vec::with_capacity(heap, LONGEST)?;
         let bench = Bench {
             kind,

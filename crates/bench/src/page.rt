@@ -39,10 +39,9 @@ impl<'c, K: ValueKind> Bench<'c, K> {
                 .unwrap();
             }
             Some(n) => {
-                if let State::Stuck(fault, line) = self.line.state(n) {
+                if let State::Stuck(fault) = self.line.state(n) {
                     let place = self.tasks.place(n).unwrap();
-                    let ranks = &place.ranks[..place.depth as usize];
-                    append_fault(&mut self.page, fault, line, ranks).unwrap();
+                    append_fault(&mut self.page, fault, place.ranks()).unwrap();
                 }
             }
         }

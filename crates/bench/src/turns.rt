@@ -1,17 +1,18 @@
 // Turns are taken, performed and handed back.
-ghost use Rattle.std.specs.Prelude.{◌≡◌, ℕ, true};
-ghost use Rattle.runs.specs.Queues.{queue, entry_at};
+ghost use Rattle.std.specs.Prelude.{◌≡◌, ℕ, true, slice_get};
+ghost use Rattle.runs.specs.Queues.{queue};
 ghost use Rattle.runs.specs.Tests.{fits_going, fits_turn};
-ghost use Rattle.lines.specs.Lines.{shown};
 ghost use Rattle.bench.specs.Views.{bench_of, going_of, turn_of};
 ghost use Rattle.bench.specs.Turns.{Gives, Takes, Performs, HandsBack};
 
-use crate::answers::{Performed, Refused};
+use crate::answers::Refused;
 use crate::bench::Bench;
+use crate::choose::choose;
 use crate::tokens::{Going, Turn};
 use kinds::ValueKind;
 use runs::{Entry, Refusal};
 use schedulers::Scheduler;
+use working::Fault;
 
 impl<'c, K: ValueKind> Bench<'c, K> {
     // Whether a going state is of this run, and the run is not closed.
@@ -34,13 +35,12 @@ impl<'c, K: ValueKind> Bench<'c, K> {
     pub(crate) fn give<S: Scheduler>(&mut self, scheduler: &mut S) -> Option<u8>
         ensures { Gives (S.choice scheduler.old) S.next scheduler.old self.old result scheduler.new self.new }
     {
-        let mut offer = [0; 64];
-        let count = self.line.offer(&mut offer);
-        if count == 0 {
+        let mut row = [0; 64];
+        let offer = self.line.offer(&mut row);
+        if offer.is_empty() {
             return None;
         }
-        let place = scheduler.pick(&offer[..count]).unwrap();
-        let task = offer[place];
+        let task = choose(scheduler, offer);
         self.line.take(task);
         Some(task)
     }
@@ -62,7 +62,7 @@ impl<'c, K: ValueKind> Bench<'c, K> {
 
     // One step of the turn's task: done, or the fault at which the task is now stuck.
     #[tactic(auto, using(crate::proofs::Calls::foreign), unfolding(runs::specs::Benches::bench, runs::specs::Tests::fits, runs::specs::Tests::fits_turn))]
-    pub fn perform(&mut self, turn: Turn) -> Result<Performed, Refused<Turn>>
+    pub fn perform(&mut self, turn: Turn) -> Result<Result<(), Fault>, Refused<Turn>>
         ensures { Performs (K.kind self.old.kind.now) turn self.old result self.new }
     {
         let turn = Refused::unless(self.knows(&turn), Refusal::Foreign, turn)?;
@@ -84,7 +84,7 @@ impl<'c, K: ValueKind> Bench<'c, K> {
     // The entry at a place of an object's queue, from 0.
     #[tactic(auto, unfolding(runs::specs::Benches::bench))]
     pub fn look(&self, object: usize, place: usize) -> Option<Entry>
-        ensures { shown result ≡ entry_at place (queue object (bench_of self.now).line) }
+        ensures { result ≡ slice_get (queue object (bench_of self.now).line) place }
     {
         self.line.look(object, place)
     }

@@ -1,4 +1,5 @@
 pub mod Code
+pub mod Levels
 pub mod Bounds
 pub mod Literals
 pub mod Sections

@@ -11,7 +11,7 @@ use crate::tree::Block;
 use std::alloc::{AllocError, Global};
 
 // The first limit that a card would break.
-#[derive(Clone, Copy)]
+#[derive(Clone, Copy, Debug, PartialEq, Eq)]
 pub enum Limit {
     Objects,
     Lines,

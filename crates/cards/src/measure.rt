@@ -26,6 +26,7 @@ fn rounds(count: u8, once: u32, cap: u32) -> u32
 }
 
 impl Extent {
+    // Written out: `Default` is not derived for a struct with ghost fields.
     fn nothing() -> Extent
         ensures { Measures 0 0 0 0 0 result }
     {
@@ -129,6 +130,7 @@ impl Section {
 }
 
 #[cycle(block_extent_statement_extent)]
+#[tactic(auto, unfolding(crate::specs::Bounds::step_bound, crate::specs::Bounds::task_bound, crate::specs::Bounds::depth, crate::specs::Bounds::line_count, crate::specs::Bounds::object_bound, crate::specs::Literals::block_literals))]
 pub(crate) fn block_extent(block: &Block) -> Extent
     ensures measures { MeasuresBlock (block_of block.now) result }
     ensures literals { block_literals (block_of block.now) ≡ true }
@@ -140,38 +142,21 @@ pub(crate) fn block_extent(block: &Block) -> Extent
 }
 
 #[cycle(block_extent_statement_extent)]
+#[tactic(auto, unfolding(crate::specs::Bounds::statement_steps, crate::specs::Bounds::statement_tasks, crate::specs::Bounds::statement_depth, crate::specs::Bounds::statement_lines, crate::specs::Bounds::statement_objects, crate::specs::Literals::statement_literals))]
 fn statement_extent(statement: &Statement) -> Extent
     ensures measures { MeasuresStatement (statement_of statement.now) result }
     ensures literals { statement_literals (statement_of statement.now) ≡ true }
 {
     match statement {
-        Statement::Set { word: _, literal } => Extent::setting(*literal),
-        Statement::Add { left: _, right: _ } => Extent::single(1, 0),
-        Statement::Point { pointer: _, object } => Extent::single(1, 1 + u32::from(*object)),
-        Statement::Alias { left: _, right: _ } => Extent::single(1, 0),
-        Statement::Read {
-            word: _,
-            pointer: _,
-        } => Extent::single(1, 0),
-        Statement::Write {
-            pointer: _,
-            word: _,
-        } => Extent::single(1, 0),
-        Statement::Join {
-            pointer: _,
-            word: _,
-        } => Extent::single(1, 0),
-        Statement::If {
-            left: _,
-            right: _,
-            first,
-        } => block_extent(first).within(1, 0, 2),
-        Statement::IfElse {
-            left: _,
-            right: _,
-            first,
-            second,
-        } => block_extent(first)
+        Statement::Set { literal, .. } => Extent::setting(*literal),
+        Statement::Point { object, .. } => Extent::single(1, 1 + u32::from(*object)),
+        Statement::Add { .. }
+        | Statement::Alias { .. }
+        | Statement::Read { .. }
+        | Statement::Write { .. }
+        | Statement::Join { .. } => Extent::single(1, 0),
+        Statement::If { first, .. } => block_extent(first).within(1, 0, 2),
+        Statement::IfElse { first, second, .. } => block_extent(first)
             .either(block_extent(second))
             .within(1, 0, 3),
         Statement::Repeat { count, body } => block_extent(body).times(*count).within(1, 0, 2),

@@ -2,7 +2,7 @@
 use Rattle.std.specs.Prelude.{◌≡◌, ℕ, ◌+◌, ◌*◌, ◌/◌, ◌%◌, ◌^◌, max, ℤ, pos, negsuc, neg_ℤ, ◌≤ℤ◌, bit_or}
 use Rattle.std.proofs.Common.{sym, ap, ◌∙◌, arith, of_z}
 use Rattle.std.specs.Int.Bits.{or_step}
-use Rattle.std.proofs.lemmas.Nat.{or_comm, or_lt, xor_lt}
+use Rattle.std.proofs.lemmas.Nat.{or_comm, or_lt, or_shr, xor_lt}
 use Rattle.std.proofs.Math.Arith.{bin_ind}
 use Rattle.std.specs.Int.{w32}
 use Rattle.std.proofs.lemmas.Int.{ints, of_z-to_z}
@@ -38,14 +38,11 @@ tally_lawful = record {
 
 -- The union of two sets of bits, by halves.
 
-or_half : (a b : ℕ) → bit_or a b / 2 ≡ bit_or (a / 2) (b / 2)
-or_half a b = omega (arith, or_step a b)
-
 or_bit : (a b : ℕ) → bit_or a b % 2 ≡ max (a % 2) (b % 2)
 or_bit a b = omega (arith, or_step a b)
 
 or_twice : (a b c : ℕ) → bit_or (bit_or a b) c ≡ bit_or (bit_or (a / 2) (b / 2)) (c / 2) * 2 + max (max (a % 2) (b % 2)) (c % 2)
-or_twice a b c = or_step (bit_or a b) c ∙ ap (λ (x : ℕ). bit_or x (c / 2) * 2 + max (bit_or a b % 2) (c % 2)) (or_half a b) ∙ ap (λ (x : ℕ). bit_or (bit_or (a / 2) (b / 2)) (c / 2) * 2 + max x (c % 2)) (or_bit a b)
+or_twice a b c = or_step (bit_or a b) c ∙ ap (λ (x : ℕ). bit_or x (c / 2) * 2 + max (bit_or a b % 2) (c % 2)) (or_shr a b 1) ∙ ap (λ (x : ℕ). bit_or (bit_or (a / 2) (b / 2)) (c / 2) * 2 + max x (c % 2)) (or_bit a b)
 
 or_exchange : (a b c : ℕ) → bit_or (bit_or a b) c ≡ bit_or (bit_or a c) b
 or_exchange = bin_ind (λ (a : ℕ). (b c : ℕ) → bit_or (bit_or a b) c ≡ bit_or (bit_or a c) b) (λ b c. or_comm b c) (λ a half b c. omega (arith, or_twice a b c, or_twice a c b, half (b / 2) (c / 2)))

@@ -5,7 +5,7 @@ ghost use Rattle.kinds.specs.Laws.{flags_lawful};
 use crate::ValueKind;
 
 // Words as sets of 32 bits; joining unites.
-#[derive(Clone, Copy)]
+#[derive(Clone, Copy, Debug, PartialEq, Eq)]
 pub struct Flags;
 
 impl ValueKind for Flags {

@@ -17,7 +17,7 @@ pub use tally::Tally;
 pub trait ValueKind: Sized {
     ghost kind: { Self → Kind };
 
-    // The word of a literal.
+    // The word of a literal. `Tally` and `Flags` agree on it, but it is no default: each kind means its own.
     fn literal(&self, z: i16) -> u32
         ensures { result ≡ (kind self.now).literal z };
 

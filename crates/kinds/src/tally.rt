@@ -5,7 +5,7 @@ ghost use Rattle.kinds.specs.Laws.{tally_lawful};
 use crate::ValueKind;
 
 // Words in two's complement; joining adds.
-#[derive(Clone, Copy)]
+#[derive(Clone, Copy, Debug, PartialEq, Eq)]
 pub struct Tally;
 
 impl ValueKind for Tally {

@@ -1,4 +1,4 @@
-pub mod Aheads
+pub mod Places
 pub mod Numbers
 pub mod Passes
 pub mod Stores

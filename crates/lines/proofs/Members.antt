@@ -1,6 +1,5 @@
 -- The model's line, as a map over the task numbers in line order.
-use Rattle.std.proofs.Common.{◌≡◌, ℕ, ◌<◌, Bool, true, false, cond, not, ◌&&◌, eqb, List, [], ◌∷◌, ◌++◌, map, length, set, sym, refl, ap, ◌∙◌, ap₂, ⊎_elim}
-use mathlib.Core.Option.{none, some}
+use Rattle.std.proofs.Common.{◌≡◌, ℕ, ◌<◌, Bool, true, false, cond, not, ◌&&◌, eqb, List, [], ◌∷◌, ◌++◌, map, length, set, Some, None, sym, refl, ap, ◌∙◌, ap₂, ⊎_elim}
 use Rattle.std.proofs.lemmas.List.{length-set, get_or-set_same, get_or-set_other}
 use Rattle.std.proofs.lemmas.Bool.{cond-true, cond-false, eqb-true, eqb-false, ne_eqb, cases_Bool, both_ways}
 use Rattle.working.specs.Tasks.{Task}
@@ -16,20 +15,20 @@ module _ (g : ℕ → Member) (numbered : (n : ℕ) → (g n).number ≡ n) (n :
   met : (m : ℕ) → eqb (g m).number n ≡ eqb m n
   met m = ap (λ (k : ℕ). eqb k n) (numbered m)
 
-  pub find_there : (ns : List ℕ) → absent itself n ns ≡ false → find n (map g ns) ≡ some (g n)
+  pub find_there : (ns : List ℕ) → absent itself n ns ≡ false → find n (map g ns) ≡ Some (g n)
   unfolding find absent
   find_there [] h = absurd (both_ways true h refl)
   find_there (m ∷ ms) h =
-      ⊎_elim (λ e. cond-true (eqb (g m).number n) (some (g m)) (find n (map g ms)) (met m ∙ e) ∙ ap (λ (k : ℕ). some (g k)) (eqb-true m n e))
-      (λ e. cond-false (eqb (g m).number n) (some (g m)) (find n (map g ms)) (met m ∙ e) ∙ find_there ms (ap (λ (b : Bool). not b && absent itself n ms) (sym e) ∙ h))
+      ⊎_elim (λ e. cond-true (eqb (g m).number n) (Some (g m)) (find n (map g ms)) (met m ∙ e) ∙ ap (λ (k : ℕ). Some (g k)) (eqb-true m n e))
+      (λ e. cond-false (eqb (g m).number n) (Some (g m)) (find n (map g ms)) (met m ∙ e) ∙ find_there ms (ap (λ (b : Bool). not b && absent itself n ms) (sym e) ∙ h))
       (cases_Bool (eqb m n))
 
-  pub find_none : (ns : List ℕ) → absent itself n ns ≡ true → find n (map g ns) ≡ none
+  pub find_none : (ns : List ℕ) → absent itself n ns ≡ true → find n (map g ns) ≡ None
   unfolding find
   find_none [] h = refl
   find_none (m ∷ ms) h =
       let p = absent_parts itself n m ms h in
-      cond-false (eqb (g m).number n) (some (g m)) (find n (map g ms)) (met m ∙ ne_eqb m n p.0) ∙ find_none ms p.1
+      cond-false (eqb (g m).number n) (Some (g m)) (find n (map g ms)) (met m ∙ ne_eqb m n p.0) ∙ find_none ms p.1
 
   -- a task leaves
   replace_left : (ns : List ℕ) → replace n [] (map g ns) ≡ map g (without itself n ns)

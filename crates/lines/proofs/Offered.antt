@@ -1,6 +1,5 @@
 -- What is offered can be taken, and a task that has its turn out stands in the line.
-use Rattle.std.proofs.Common.{◌≡◌, ℕ, ◌<◌, true, false, List, length, get_or, vec_items, filter, sym, refl, ap, ◌∙◌, subst, arith}
-use mathlib.Core.Option.{some}
+use Rattle.std.proofs.Common.{Some, ◌≡◌, ℕ, ◌<◌, true, false, List, length, get_or, vec_items, filter, sym, refl, ap, ◌∙◌, subst, arith}
 use Rattle.std.proofs.ByRecursion.{All-get_or, kept_by_passes}
 use Rattle.std.proofs.lemmas.Bool.{and_parts, and_from}
 use Rattle.working.specs.Tasks.{Task}
@@ -34,7 +33,7 @@ module _ (l : Line) (t : ℕ → Task) (n : ℕ) (turn : has_turn n (line_of l t
   pub turn_made : n < l.made
   turn_made = live_made l n turn_live
 
-  pub turn_found : find n (line_of l t) ≡ some (member n out (t n))
+  pub turn_found : find n (line_of l t) ≡ Some (member n out (t n))
   turn_found = found_out l.states (vec_items l.order) t l.unfinished n turn_out
 
   pub turn_ready : Tells l t → ready (line_of l t) (member n out (t n)) ≡ true
@@ -44,7 +43,7 @@ waiting_live : (s : State) → is_waiting s ≡ true → is_finished s ≡ false
 waiting_live Finished e = sym e
 waiting_live Waiting e = refl
 waiting_live Out e = refl
-waiting_live (Stuck f l) e = refl
+waiting_live (Stuck f) e = refl
 
 module _ (l : Line) (t : ℕ → Task) (tells : Tells l t) where
   offers_takes : (n : ℕ) → offers l.states l.clear n ≡ true → can_take n (line_of l t) ≡ true

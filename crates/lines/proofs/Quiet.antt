@@ -1,6 +1,5 @@
 -- A task that waits goes on waiting, with the same declarations: the line is as it was.
-use Rattle.std.proofs.Common.{◌≡◌, ℕ, ◌<◌, Bool, true, false, cond, List, [], ◌∷◌, length, set, vec_items, sym, refl, ap, ◌∙◌, subst, ⊎_elim, arith}
-use mathlib.Core.Option.{some}
+use Rattle.std.proofs.Common.{Some, ◌≡◌, ℕ, ◌<◌, Bool, true, false, cond, List, [], ◌∷◌, length, set, vec_items, sym, refl, ap, ◌∙◌, subst, ⊎_elim, arith}
 use Rattle.std.proofs.lemmas.List.{set-get_or}
 use Rattle.std.proofs.lemmas.Bool.{and_parts, both_ways, cases_eq}
 use Rattle.working.specs.declared.declared.Declared.{Declared}
@@ -25,7 +24,7 @@ waits_is : (s : State) → is_waiting s ≡ true → s ≡ Waiting
 waits_is Finished e = absurd (both_ways false refl e)
 waits_is Waiting e = refl
 waits_is Out e = absurd (both_ways false refl e)
-waits_is (Stuck f l) e = absurd (both_ways false refl e)
+waits_is (Stuck f) e = absurd (both_ways false refl e)
 
 -- a task that can be taken waits
 module _ (l : Line) (t : ℕ → Task) (n : ℕ) (tells : Tells l t) (can : can_take n (line_of l t) ≡ true) where
@@ -43,7 +42,7 @@ module _ (l : Line) (t : ℕ → Task) (n : ℕ) (tells : Tells l t) (can : can_
   pub take_made : n < l.made
   take_made = live_made l n take_live
 
-  pub take_found : find n (line_of l t) ≡ some (member n waiting (t n))
+  pub take_found : find n (line_of l t) ≡ Some (member n waiting (t n))
   take_found = found_waiting l.states (vec_items l.order) t l.unfinished n waits
 
 -- to mark it as waiting changes nothing

@@ -1,6 +1,6 @@
 -- A task's flag says that its immediate declarations are clear.
-use Rattle.std.proofs.Common.{◌≡◌, ℕ, zero, suc, ◌<◌, ◌≤◌, Bool, true, false, cond, not, ◌&&◌, ◌||◌, eqb, List, [], ◌∷◌, map, length, get_or, filter, sym, refl, ap, ◌∙◌, ap₂, ⊎_elim, arith}
-use mathlib.Core.Option.{Option, Option-elim}
+use Rattle.std.proofs.Common.{Option, ◌≡◌, ℕ, zero, suc, ◌<◌, ◌≤◌, Bool, true, false, cond, not, ◌&&◌, ◌||◌, eqb, List, [], ◌∷◌, map, length, get_or, filter, sym, refl, ap, ◌∙◌, ap₂, ⊎_elim, arith}
+use Rattle.std.specs.Option.{option_map_or}
 use Rattle.std.proofs.lemmas.Bool.{cond-true, cond-false, eqb-true, eqb-false, eq-eqb, ne_eqb, cases_Bool, or_parts, both_ways}
 use Rattle.cards.specs.declared.lines.Access.TheVariants.{Rd, Wr, Cm}
 use Rattle.cards.specs.declared.lines.Level.{Level}
@@ -148,7 +148,7 @@ module _ (qs : List (List Entry)) (ss : List State) (ns : List ℕ) (t : ℕ →
       go : (s : State) → state_at ss n ≡ s → is_out_state s ≡ true → ready line (member n out (t n)) ≡ true
       go Finished q e = absurd (both_ways false refl e)
       go Waiting q e = absurd (both_ways false refl e)
-      go (Stuck f l) q e = absurd (both_ways false refl e)
+      go (Stuck f) q e = absurd (both_ways false refl e)
       go Out q e =
           ap (λ (x : State). ready line (member n (status_of x) (t n))) (sym q)
           ∙ ready_is n (left n ∙ ap is_finished q)
@@ -161,7 +161,7 @@ module _ (qs : List (List Entry)) (ss : List State) (ns : List ℕ) (t : ℕ →
   waits Waiting x e = and_true x
   waits Out true e = refl
   waits Out false e = refl
-  waits (Stuck f l) x e = refl
+  waits (Stuck f) x e = refl
 
   on_offer_is : Unfinished ss ns → (n : ℕ) → absent itself n ns ≡ false → on_offer line (member_at ss t n) ≡ (is_waiting (state_at ss n) && clear_in qs n)
   unfolding on_offer member_at member
@@ -169,23 +169,23 @@ module _ (qs : List (List Entry)) (ss : List State) (ns : List ℕ) (t : ℕ →
 
   -- what is taken
   pub can_take_is : Unfinished ss ns → (n : ℕ) → can_take n line ≡ (is_waiting (state_at ss n) && clear_in qs n)
-  unfolding can_take members_at Option-elim
+  unfolding can_take members_at
   can_take_is left n =
       ⊎_elim
-      (λ none. ap (λ (o : Option Member). Option-elim o false (on_offer line)) (find_none (member_at ss t) (number_at ss t) n ns none) ∙ sym (gone (state_at ss n) (sym (left n) ∙ none)))
-      (λ here. ap (λ (o : Option Member). Option-elim o false (on_offer line)) (find_there (member_at ss t) (number_at ss t) n ns here) ∙ on_offer_is left n here)
+      (λ none. ap (λ (o : Option Member). option_map_or (on_offer line) o false) (find_none (member_at ss t) (number_at ss t) n ns none) ∙ sym (gone (state_at ss n) (sym (left n) ∙ none)))
+      (λ here. ap (λ (o : Option Member). option_map_or (on_offer line) o false) (find_there (member_at ss t) (number_at ss t) n ns here) ∙ on_offer_is left n here)
       (cases_Bool (absent itself n ns))
     where
       gone : (s : State) → is_finished s ≡ true → (is_waiting s && clear_in qs n) ≡ false
       gone Finished e = refl
       gone Waiting e = absurd (both_ways false refl e)
       gone Out e = refl
-      gone (Stuck f l) e = refl
+      gone (Stuck f) e = refl
 
 -- what is offered
 offered_kept : (line : List Member) (ss : List State) (t : ℕ → Task) (p : ℕ → Bool) (ns : List ℕ) → ((n : ℕ) → absent itself n ns ≡ false → on_offer line (member_at ss t n) ≡ p n) → offered line (members_at ss t ns) ≡ filter p ns
 unfolding offered members_at
-offered_kept line ss t p [] h = refl
+offered_kept _ ss t p [] h = refl
 offered_kept line ss t p (n ∷ ns) h =
     ap (λ (m : ℕ). cond (on_offer line (member_at ss t n)) (m ∷ offered line (map (member_at ss t) ns)) (offered line (map (member_at ss t) ns))) (number_at ss t n)
     ∙ ap₂ (λ (b : Bool) (l : List ℕ). cond b (n ∷ l) l) (h n (there_first n ns)) (offered_kept line ss t p ns (λ m g. h m (there_later m n ns g)))

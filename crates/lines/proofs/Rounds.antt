@@ -1,6 +1,6 @@
 -- A change of every queue, one after the other.
-use Rattle.std.proofs.Common.{◌≡◌, ℕ, ◌+◌, ◌<◌, ◌≤◌, Bool, cond, ltb, ◌⊎◌, List, [], length, get_or, set, vec_items, vec_len, sym, refl, ap, ◌∙◌, inl, inr, arith}
-use Rattle.std.proofs.lemmas.List.{get_or-set_same, get_or-set_other, get_or_past}
+use Rattle.std.proofs.Common.{◌≡◌, ℕ, ◌+◌, ◌<◌, ◌≤◌, Bool, cond, ltb, ◌⊎◌, List, [], ◌++◌, length, get_or, take, drop, set, Vec, Global, vec_items, vec_len, sym, refl, ap, ◌∙◌, inl, inr, arith}
+use Rattle.std.proofs.lemmas.List.{get_or-set_same, get_or-set_other, get_or_past, take-append-le, take_all}
 use Rattle.std.proofs.lemmas.Bool.{cases_eq, cases_lt, lt-ltb, le-ltb, cond-true, cond-false}
 use Rattle.lines.specs.Rows.{without}
 use Rattle.runs.specs.declared.entry.Entry.{Entry}
@@ -43,6 +43,13 @@ module _ (f : ℕ → List Entry → List Entry) (old : List (List Entry)) where
       go (inr g) =
           let none : get_or old k [] ≡ [] = get_or_past old k [] (omega arith) in
           h k ∙ cond-false (ltb k o) (f k (get_or old k [])) (get_or old k []) (le-ltb k o g) ∙ none ∙ sym (past k g) ∙ ap (f k) (sym none)
+
+  -- a Vec of which each queue was changed in turn
+  pub changed_back : (v : Vec Queue Global) (qs : List Queue) (o : ℕ) → old ≡ queues_of (vec_items v) → length qs ≡ length (vec_items v) → length (vec_items v) ≤ o → ((k : ℕ) → length (vec_items v) ≤ k → f k [] ≡ []) → ChangedTo o (queues_of qs) → (k : ℕ) → get_or (queues_of (take v.len (qs ++ drop (length qs) (vec_items v)))) k [] ≡ f k (get_or (queues_of (vec_items v)) k [])
+  changed_back v qs o is long ge past h k =
+      ap (λ (r : List Queue). get_or (queues_of r) k []) (take-append-le v.len qs (drop (length qs) (vec_items v)) (omega (arith, v.ok.0)) ∙ take_all v.len qs (omega (arith, v.ok.0)))
+      ∙ changed_all o (queues_of qs) (omega (arith, ap length is, length_queues (vec_items v))) (λ j le. past j (omega arith)) h k
+      ∙ ap (λ (r : List (List Entry)). f k (get_or r k [])) is
 
   not_yet : (o : ℕ) (new : List (List Entry)) → ChangedTo o new → get_or new o [] ≡ get_or old o []
   not_yet o new h = h o ∙ cond-false (ltb o o) (f o (get_or old o [])) (get_or old o []) (le-ltb o o (omega arith))

@@ -1,7 +1,7 @@
 -- The states of the tasks, in the model's terms.
-use Rattle.std.proofs.Common.{◌≡◌, ℕ, ◌+◌, ◌<◌, ◌≤◌, Bool, true, false, ◌||◌, List, [], ◌∷◌, map, length, get_or, drop, sym, refl, ap, ◌∙◌, ⊎_elim, arith}
-use mathlib.Core.Option.{Option, some, Option-elim}
-use Rattle.std.proofs.lemmas.List.{at_drop_more, at_drop_all}
+use Rattle.std.proofs.Common.{◌≡◌, ℕ, Bool, true, false, ◌||◌, List, [], ◌∷◌, map, Some, Option, MatchOption, sym, refl, ap, ◌∙◌, ⊎_elim}
+use Rattle.std.specs.Option.{option_map_or}
+use Rattle.std.specs.List.{slice_get, list_any}
 use Rattle.std.proofs.lemmas.Bool.{cases_Bool, both_ways}
 use Rattle.working.specs.Tasks.{Task}
 use Rattle.runs.specs.Lines as Model
@@ -21,46 +21,46 @@ use Rattle.lines.proofs.Unfinished.{Unfinished, finished_in}
 -- What a deed tells of the state.
 
 pub step_out : (s : State) → Step ≡ deed s Perform → is_out s ≡ true
-step_out Finished e = let z : ◌≡◌ {A = ℕ} 0 1 = cc in absurd (omega arith)
-step_out Waiting e = let z : ◌≡◌ {A = ℕ} 0 1 = cc in absurd (omega arith)
+step_out Finished e = cc
+step_out Waiting e = cc
 step_out Out e = refl
-step_out (Stuck f l) e = let z : ◌≡◌ {A = ℕ} 0 1 = cc in absurd (omega arith)
+step_out (Stuck f) e = cc
 
 pub return_out : (s : State) → Return ≡ deed s HandBack → is_out s ≡ true
-return_out Finished e = let z : ◌≡◌ {A = ℕ} 0 1 = cc in absurd (omega arith)
-return_out Waiting e = let z : ◌≡◌ {A = ℕ} 0 1 = cc in absurd (omega arith)
+return_out Finished e = cc
+return_out Waiting e = cc
 return_out Out e = refl
-return_out (Stuck f l) e = let z : ◌≡◌ {A = ℕ} 0 1 = cc in absurd (omega arith)
+return_out (Stuck f) e = cc
 
 pub give_waits : (s : State) → Give ≡ deed s Take → is_waiting s ≡ true
-give_waits Finished e = let z : ◌≡◌ {A = ℕ} 0 1 = cc in absurd (omega arith)
+give_waits Finished e = cc
 give_waits Waiting e = refl
-give_waits Out e = let z : ◌≡◌ {A = ℕ} 0 1 = cc in absurd (omega arith)
-give_waits (Stuck f l) e = let z : ◌≡◌ {A = ℕ} 0 1 = cc in absurd (omega arith)
+give_waits Out e = cc
+give_waits (Stuck f) e = cc
 
 pub no_step : (s : State) → (deed s Perform ≡ Step → ⊥) → is_out s ≡ false
 no_step Finished h = refl
 no_step Waiting h = refl
 no_step Out h = absurd (h refl)
-no_step (Stuck f l) h = refl
+no_step (Stuck f) h = refl
 
 pub no_return : (s : State) → (deed s HandBack ≡ Return → ⊥) → is_out s ≡ false
 no_return Finished h = refl
 no_return Waiting h = refl
 no_return Out h = absurd (h refl)
-no_return (Stuck f l) h = refl
+no_return (Stuck f) h = refl
 
 pub no_give : (s : State) → (deed s Take ≡ Give → ⊥) → is_waiting s ≡ false
 no_give Finished h = refl
 no_give Waiting h = absurd (h refl)
 no_give Out h = refl
-no_give (Stuck f l) h = refl
+no_give (Stuck f) h = refl
 
 pub out_live : (s : State) → is_out s ≡ true → is_finished s ≡ false
 out_live Finished e = absurd (both_ways false refl e)
 out_live Waiting e = refl
 out_live Out e = refl
-out_live (Stuck f l) e = refl
+out_live (Stuck f) e = refl
 
 -- The status of a state.
 
@@ -69,48 +69,48 @@ unfolding Model.is_out
 status_out Finished = refl
 status_out Waiting = refl
 status_out Out = refl
-status_out (Stuck f l) = refl
+status_out (Stuck f) = refl
 
 status_stuck : (s : State) → Model.is_stuck (status_of s) ≡ is_stuck s
 unfolding Model.is_stuck
 status_stuck Finished = refl
 status_stuck Waiting = refl
 status_stuck Out = refl
-status_stuck (Stuck f l) = refl
+status_stuck (Stuck f) = refl
 
 -- A task that is there is found.
 
-found_at : (ss : List State) (ns : List ℕ) (t : ℕ → Task) → Unfinished ss ns → (n : ℕ) (s : State) → state_at ss n ≡ s → is_finished s ≡ false → find n (members_at ss t ns) ≡ some (member n (status_of s) (t n))
+found_at : (ss : List State) (ns : List ℕ) (t : ℕ → Task) → Unfinished ss ns → (n : ℕ) (s : State) → state_at ss n ≡ s → is_finished s ≡ false → find n (members_at ss t ns) ≡ Some (member n (status_of s) (t n))
 unfolding members_at member_at
 found_at ss ns t left n s e live =
-    find_there (member_at ss t) (number_at ss t) n ns (left n ∙ ap is_finished e ∙ live) ∙ ap (λ (x : State). some (member n (status_of x) (t n))) e
+    find_there (member_at ss t) (number_at ss t) n ns (left n ∙ ap is_finished e ∙ live) ∙ ap (λ (x : State). Some (member n (status_of x) (t n))) e
 
-pub found_out : (ss : List State) (ns : List ℕ) (t : ℕ → Task) → Unfinished ss ns → (n : ℕ) → is_out (state_at ss n) ≡ true → find n (members_at ss t ns) ≡ some (member n Model.out (t n))
+pub found_out : (ss : List State) (ns : List ℕ) (t : ℕ → Task) → Unfinished ss ns → (n : ℕ) → is_out (state_at ss n) ≡ true → find n (members_at ss t ns) ≡ Some (member n Model.out (t n))
 found_out ss ns t left n e = go (state_at ss n) refl e
   where
-    go : (s : State) → state_at ss n ≡ s → is_out s ≡ true → find n (members_at ss t ns) ≡ some (member n Model.out (t n))
+    go : (s : State) → state_at ss n ≡ s → is_out s ≡ true → find n (members_at ss t ns) ≡ Some (member n Model.out (t n))
     go Finished q e = absurd (both_ways false refl e)
     go Waiting q e = absurd (both_ways false refl e)
     go Out q e = found_at ss ns t left n Out q refl
-    go (Stuck f l) q e = absurd (both_ways false refl e)
+    go (Stuck f) q e = absurd (both_ways false refl e)
 
-pub found_waiting : (ss : List State) (ns : List ℕ) (t : ℕ → Task) → Unfinished ss ns → (n : ℕ) → is_waiting (state_at ss n) ≡ true → find n (members_at ss t ns) ≡ some (member n Model.waiting (t n))
+pub found_waiting : (ss : List State) (ns : List ℕ) (t : ℕ → Task) → Unfinished ss ns → (n : ℕ) → is_waiting (state_at ss n) ≡ true → find n (members_at ss t ns) ≡ Some (member n Model.waiting (t n))
 found_waiting ss ns t left n e = go (state_at ss n) refl e
   where
-    go : (s : State) → state_at ss n ≡ s → is_waiting s ≡ true → find n (members_at ss t ns) ≡ some (member n Model.waiting (t n))
+    go : (s : State) → state_at ss n ≡ s → is_waiting s ≡ true → find n (members_at ss t ns) ≡ Some (member n Model.waiting (t n))
     go Finished q e = absurd (both_ways false refl e)
     go Waiting q e = found_at ss ns t left n Waiting q refl
     go Out q e = absurd (both_ways false refl e)
-    go (Stuck f l) q e = absurd (both_ways false refl e)
+    go (Stuck f) q e = absurd (both_ways false refl e)
 
 -- Who has a turn out.
 
 pub turn_is : (ss : List State) (ns : List ℕ) (t : ℕ → Task) → Unfinished ss ns → (n : ℕ) → is_out (state_at ss n) ≡ has_turn n (members_at ss t ns)
-unfolding has_turn members_at member_at member Option-elim
+unfolding has_turn members_at member_at member
 turn_is ss ns t left n =
     ⊎_elim
-    (λ gone. finished_in (state_at ss n) (sym (left n) ∙ gone) ∙ sym (ap (λ (o : Option Member). Option-elim o false (λ s. Model.is_out s.status)) (find_none (member_at ss t) (number_at ss t) n ns gone)))
-    (λ here. sym (status_out (state_at ss n)) ∙ sym (ap (λ (o : Option Member). Option-elim o false (λ s. Model.is_out s.status)) (find_there (member_at ss t) (number_at ss t) n ns here)))
+    (λ gone. finished_in (state_at ss n) (sym (left n) ∙ gone) ∙ sym (ap (λ (o : Option Member). option_map_or (λ (s : Member). Model.is_out s.status) o false) (find_none (member_at ss t) (number_at ss t) n ns gone)))
+    (λ here. sym (status_out (state_at ss n)) ∙ sym (ap (λ (o : Option Member). option_map_or (λ (s : Member). Model.is_out s.status) o false) (find_there (member_at ss t) (number_at ss t) n ns here)))
     (cases_Bool (absent itself n ns))
 
 any_front : (ss : List State) (t : ℕ → Task) (n : ℕ) (ns : List ℕ) → any_out (members_at ss t (n ∷ ns)) ≡ (is_out (state_at ss n) || any_out (members_at ss t ns))
@@ -121,32 +121,16 @@ any_none : (ss : List State) (t : ℕ → Task) → any_out (members_at ss t [])
 unfolding any_out members_at
 any_none ss t = refl
 
-module _ (ss : List State) (ns : List ℕ) (t : ℕ → Task) (i : ℕ) where
-  at_place : (x : ℕ) → i < length ns → x ≡ get_or ns i x → (b : Bool) → b ≡ is_out (state_at ss x) → any_out (members_at ss t (drop i ns)) ≡ (b || any_out (members_at ss t (drop (i + 1) ns)))
-  at_place x lt read b is =
-      at_drop_more (λ (l : List ℕ). any_out (members_at ss t l)) ns i x lt ∙ any_front ss t (get_or ns i x) (drop (i + 1) ns)
-      ∙ ap (λ (c : Bool). c || any_out (members_at ss t (drop (i + 1) ns))) (ap (λ (y : ℕ). is_out (state_at ss y)) (sym read) ∙ sym is)
-
-  pub any_found : (x : ℕ) → i < length ns → x ≡ get_or ns i x → (b : Bool) → b ≡ is_out (state_at ss x) → b ≡ true → any_out (members_at ss t (drop i ns)) ≡ any_out (members_at ss t ns) → true ≡ any_out (members_at ss t ns)
-  any_found x lt read b is e h = sym (at_place x lt read b is ∙ ap (λ (c : Bool). c || any_out (members_at ss t (drop (i + 1) ns))) e) ∙ h
-
-  pub any_more : (x : ℕ) → i < length ns → x ≡ get_or ns i x → (b : Bool) → b ≡ is_out (state_at ss x) → b ≡ false → any_out (members_at ss t (drop i ns)) ≡ any_out (members_at ss t ns) → any_out (members_at ss t (drop (i + 1) ns)) ≡ any_out (members_at ss t ns)
-  any_more x lt read b is e h = sym (at_place x lt read b is ∙ ap (λ (c : Bool). c || any_out (members_at ss t (drop (i + 1) ns))) e) ∙ h
-
-  pub any_all : length ns ≤ i → any_out (members_at ss t (drop i ns)) ≡ any_out (members_at ss t ns) → false ≡ any_out (members_at ss t ns)
-  any_all ge h = sym (at_drop_all (λ (l : List ℕ). any_out (members_at ss t l)) ns i ge ∙ any_none ss t) ∙ h
+pub any_is : (ss : List State) (t : ℕ → Task) (ns : List ℕ) → list_any (λ n. is_out (state_at ss n)) ns ≡ any_out (members_at ss t ns)
+any_is ss t [] = sym (any_none ss t)
+any_is ss t (n ∷ ns) = ap (λ (b : Bool). is_out (state_at ss n) || b) (any_is ss t ns) ∙ sym (any_front ss t n ns)
 
 -- The first in line.
 
-pub first_there : (ss : List State) (t : ℕ → Task) (ns : List ℕ) (n : ℕ) → 0 < length ns → n ≡ get_or ns 0 n → (rest : List Member) × (members_at ss t ns ≡ member n (status_of (state_at ss n)) (t n) ∷ rest)
+pub first_is : (ss : List State) (t : ℕ → Task) (ns : List ℕ) → MatchOption (slice_get ns 0) (members_at ss t ns ≡ []) (λ n. (rest : List Member) × (members_at ss t ns ≡ member n (status_of (state_at ss n)) (t n) ∷ rest))
 unfolding members_at member_at
-first_there ss t [] n lt read = absurd (omega arith)
-first_there ss t (m ∷ ms) n lt read = (map (member_at ss t) ms, ap (λ (k : ℕ). member k (status_of (state_at ss k)) (t k) ∷ map (member_at ss t) ms) (sym read))
-
-pub first_none : (ss : List State) (t : ℕ → Task) (ns : List ℕ) → length ns ≤ 0 → members_at ss t ns ≡ []
-unfolding members_at
-first_none ss t [] le = refl
-first_none ss t (m ∷ ms) le = absurd (omega arith)
+first_is ss t [] = refl
+first_is ss t (n ∷ ns) = (map (member_at ss t) ns, refl)
 
 pub settled_none : (line : List Member) → line ≡ [] → true ≡ settled_line line
 unfolding settled_line

@@ -1,7 +1,7 @@
 -- The stored queues as lists.
-use Rattle.std.proofs.Common.{◌≡◌, ℕ, ◌+◌, ◌<◌, Bool, true, ◌&&◌, List, [], ◌∷◌, ◌++◌, length, get_or, set, replicate, vec_items, sym, refl, ap, ◌∙◌, ap₂, ⊎_elim, add-one}
+use Rattle.std.proofs.Common.{◌≡◌, ℕ, ◌+◌, ◌<◌, Bool, true, ◌&&◌, List, [], length, get_or, set, replicate, vec_items, sym, refl, ap, ◌∙◌, ⊎_elim, add-one}
 use Rattle.runs.specs.declared.entry.Entry.{Entry}
-use Rattle.std.proofs.lemmas.List.{length-map, get_or-map, map-set, map_push, get_or_past, get_or-replicate, length-replicate, replicate_more}
+use Rattle.std.proofs.lemmas.List.{length-map, get_or-map, map-set, get_or_past, get_or-replicate, length-replicate}
 use Rattle.std.proofs.lemmas.Bool.{cases_lt}
 use Rattle.lines.specs.declared.queue.Queue.{Queue}
 use Rattle.runs.specs.Ready.{each}
@@ -32,10 +32,6 @@ unfolding clear_in
 clear_all qs n o b e h = h ∙ ap (λ (k : ℕ). each k (λ o. clear_from n at_first (get_or (queues_of qs) o []))) (e ∙ sym (length_queues qs))
 
 -- Empty queues.
-
-pub empty_more : (qs qs' : List Queue) (q : Queue) (n : ℕ) → queues_of qs ≡ replicate n [] → vec_items q.entries ≡ [] → qs' ≡ qs ++ q ∷ [] → queues_of qs' ≡ replicate (n + 1) []
-empty_more qs qs' q n h e f =
-    ap queues_of f ∙ map_push (λ (q : Queue). vec_items q.entries) qs q ∙ ap₂ (λ (l : List (List Entry)) (es : List Entry). l ++ es ∷ []) h e ∙ replicate_more n []
 
 pub getD_empty : (qs : List (List Entry)) (n o : ℕ) → qs ≡ replicate n [] → get_or qs o [] ≡ []
 getD_empty qs n o e = ap (λ (l : List (List Entry)). get_or l o []) e ∙ ⊎_elim (λ l. get_or-replicate n o [] [] l) (λ g. get_or_past (replicate n []) o [] (rw length-replicate g)) (cases_lt o n)

@@ -56,7 +56,7 @@ pub finished_in : (s : State) → is_finished s ≡ true → is_out s ≡ false
 finished_in Finished e = refl
 finished_in Waiting e = refl
 finished_in Out e = absurd (both_ways false refl e)
-finished_in (Stuck f l) e = refl
+finished_in (Stuck f) e = refl
 
 -- the task that is marked is finished or in that state, and the others are as they were
 pub state_marked : (ss : List State) (n : ℕ) (s : State) (k : ℕ) → is_out (state_at (marked ss n s) k) ≡ true → (is_out (state_at ss k) ≡ true) ⊎ ((k ≡ n) × (is_out s ≡ true))

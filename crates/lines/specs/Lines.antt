@@ -1,9 +1,8 @@
 -- The line in the model's terms, and what it knows of each task.
-use Rattle.std.specs.Prelude.{◌≡◌, ℕ, true, false, List, Some, None, vec_items, vec_len, Option, ◌≢◌}
-use Rattle.std.proofs.Math.Option as model
+use Rattle.std.specs.Prelude.{◌≡◌, ℕ, Bool, true, false, List, [], ◌∷◌, Some, vec_items, vec_len, ◌≢◌}
 use Rattle.working.specs.declared.declared.Declared.{Declared}
 use Rattle.working.specs.Tasks.{Task}
-use Rattle.runs.specs.Lines.{Member}
+use Rattle.runs.specs.Lines.{Status, Member, member, find, replace}
 use Rattle.lines.specs.declared.line.Line.{Line}
 use Rattle.lines.specs.declared.state.State.{State}
 use Rattle.lines.specs.States.{is_finished}
@@ -34,10 +33,22 @@ But n t u = (k : ℕ) → (k ≢ n) → u k ≡ t k
 abbrev pub ButBoth : ℕ → ℕ → (ℕ → Task) → (ℕ → Task) → Type 0
 ButBoth m n t u = (k : ℕ) → (k ≢ m) → (k ≢ n) → u k ≡ t k
 
+-- in the place of task n stand ms, where the tasks before and after differ at n alone
+abbrev pub Replaces : ℕ → ((ℕ → Task) → List Member) → Line → Line → Type 0
+Replaces n ms l l' = (t u : ℕ → Task) → But n t u → line_of l' u ≡ replace n (ms u) (line_of l t)
+
+-- task n alone, with this status
+abbrev pub in_status : ℕ → Status → (ℕ → Task) → List Member
+in_status n s u = member n s (u n) ∷ []
+
+-- what l knows of each task l' knows too, if task n declares what it did
+abbrev pub TellsAlike : ℕ → Line → Line → Type 0
+TellsAlike n l l' = (t u : ℕ → Task) → But n t u → (u n).declared ≡ (t n).declared → Tells l t → Tells l' u
+
+-- if b, task n stands in the line with this status
+abbrev pub FoundIf : Bool → ℕ → Status → Line → Type 0
+FoundIf b n s l = (t : ℕ → Task) → b ≡ true → find n (line_of l t) ≡ Some (member n s (t n))
+
 -- as many objects, and as many tasks made
 abbrev pub SizedAs : Line → Line → Type 0
 SizedAs l l' = (object_count l' ≡ object_count l) × (l'.made ≡ l.made)
-
-abbrev pub shown : {X : Type 0} → Option X → model.Option X
-shown None = model.none
-shown (Some x) = model.some x

@@ -1,5 +1,5 @@
 -- Rows of numbered elements: what stands before, in the place of, or without the first element numbered n.
-use Rattle.std.specs.Prelude.{ℕ, suc, Bool, true, cond, not, ◌&&◌, List, [], ◌∷◌, ◌==◌, nat_lt}
+use Rattle.std.specs.Prelude.{ℕ, Bool, true, cond, not, ◌&&◌, List, [], ◌∷◌, ◌==◌, nat_lt}
 use Rattle.runs.specs.declared.entry.Entry.{Entry}
 
 -- the numbers of a task number and of an entry
@@ -11,11 +11,6 @@ entry_number e = e.number
 
 module _ {A : Type 0} (number : A → ℕ) where
   module _ (n : ℕ) where
-    -- how many elements stand before it
-    unfoldable pub ahead : List A → ℕ
-    ahead [] = 0
-    ahead (x ∷ xs) = cond (number x == n) 0 (suc (ahead xs))
-
     -- y before it, or at the end
     unfoldable pub put_before : A → List A → List A
     put_before y [] = y ∷ []

@@ -18,37 +18,37 @@ deed Waiting HandBack = Refuse
 deed Out Take = Refuse
 deed Out Perform = Step
 deed Out HandBack = Return
-deed (Stuck f l) Take = Refuse
-deed (Stuck f l) Perform = Refuse
-deed (Stuck f l) HandBack = Refuse
+deed (Stuck f) Take = Refuse
+deed (Stuck f) Perform = Refuse
+deed (Stuck f) HandBack = Refuse
 
 abbrev pub is_finished : State → Bool
 is_finished Finished = true
 is_finished Waiting = false
 is_finished Out = false
-is_finished (Stuck f l) = false
+is_finished (Stuck f) = false
 
 abbrev pub is_waiting : State → Bool
 is_waiting Finished = false
 is_waiting Waiting = true
 is_waiting Out = false
-is_waiting (Stuck f l) = false
+is_waiting (Stuck f) = false
 
 abbrev pub is_out : State → Bool
 is_out Finished = false
 is_out Waiting = false
 is_out Out = true
-is_out (Stuck f l) = false
+is_out (Stuck f) = false
 
 abbrev pub is_stuck : State → Bool
 is_stuck Finished = false
 is_stuck Waiting = false
 is_stuck Out = false
-is_stuck (Stuck f l) = true
+is_stuck (Stuck f) = true
 
 -- the status in the line; a finished task stands in no line
 abbrev pub status_of : State → Status
 status_of Finished = waiting
 status_of Waiting = waiting
 status_of Out = out
-status_of (Stuck f l) = stuck f l
+status_of (Stuck f) = stuck f.kind f.line

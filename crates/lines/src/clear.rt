@@ -1,12 +1,10 @@
 // Which immediate declarations are clear.
 ghost use Rattle.std.specs.Prelude.{◌≡◌};
-ghost use Rattle.cards.specs.declared.lines.Access.TheVariants.{Rd, Cm};
-ghost use Rattle.working.specs.Tasks as Tasks;
 ghost use Rattle.runs.specs.Queues as Queues;
 ghost use Rattle.runs.specs.Ready as Ready;
 ghost use Rattle.lines.specs.Clears as Clears;
 
-use cards::Level;
+use cards::Access;
 use working::Declared;
 
 // Which immediate declarations of the next entry of a queue would be clear.
@@ -17,42 +15,23 @@ pub(crate) struct Clear {
     pub(crate) commutes: bool,
 }
 
-fn held(level: Level) -> bool
-    ensures { result ≡ Tasks.held level }
-{
-    match level {
-        Level::Absent => false,
-        Level::Deferred | Level::Immediate => true,
-    }
-}
-
-fn immediate(level: Level) -> bool
-    ensures { result ≡ Tasks.is_immediate level }
-{
-    match level {
-        Level::Immediate => true,
-        Level::Absent | Level::Deferred => false,
-    }
-}
-
+#[tactic(auto, unfolding(runs::specs::Queues::declares))]
 pub(crate) fn declares(d: Declared) -> bool
     ensures { result ≡ Queues.declares d }
 {
-    held(d.reads) || held(d.writes) || held(d.commutes)
+    d.reads.is_held() || d.writes.is_held() || d.commutes.is_held()
 }
 
-// Whether an entry leaves a later read clear.
-fn passes_read(d: Declared) -> bool
-    ensures { result ≡ Ready.passes Rd d }
+// Whether an entry leaves a later declaration for the access clear.
+#[tactic(auto, unfolding(runs::specs::Ready::passes))]
+fn passes(access: Access, d: Declared) -> bool
+    ensures { result ≡ Ready.passes access d }
 {
-    !(held(d.writes) | held(d.commutes))
-}
-
-// Whether it leaves a later commute clear.
-fn passes_commute(d: Declared) -> bool
-    ensures { result ≡ Ready.passes Cm d }
-{
-    !(held(d.reads) | held(d.writes))
+    match access {
+        Access::Rd => !(d.writes.is_held() | d.commutes.is_held()),
+        Access::Wr => false,
+        Access::Cm => !(d.reads.is_held() | d.writes.is_held()),
+    }
 }
 
 impl Clear {
@@ -68,13 +47,14 @@ impl Clear {
     }
 
     // Past an entry.
+    #[tactic(auto, unfolding(runs::specs::Ready::passes))]
     pub(crate) fn past(self, d: Declared) -> Clear
         ensures { result ≡ Clears.past self d }
     {
         Clear {
-            reads: self.reads & passes_read(d),
-            writes: false,
-            commutes: self.commutes & passes_commute(d),
+            reads: self.reads & passes(Access::Rd, d),
+            writes: self.writes & passes(Access::Wr, d),
+            commutes: self.commutes & passes(Access::Cm, d),
         }
     }
 
@@ -82,8 +62,8 @@ impl Clear {
     pub(crate) fn lets(self, d: Declared) -> bool
         ensures { result ≡ Clears.lets self d }
     {
-        (!immediate(d.reads) || self.reads)
-            && (!immediate(d.writes) || self.writes)
-            && (!immediate(d.commutes) || self.commutes)
+        (!d.reads.is_immediate() || self.reads)
+            && (!d.writes.is_immediate() || self.writes)
+            && (!d.commutes.is_immediate() || self.commutes)
     }
 }

@@ -1,6 +1,6 @@
 // Rows of elements that have a task's number.
-ghost use Rattle.std.specs.Prelude.{◌≡◌, ℕ, ◌<◌, ◌≤◌, length, vec_len, vec_capacity};
-ghost use Rattle.lines.specs.Rows.{ahead, put_before, without, revised};
+ghost use Rattle.std.specs.Prelude.{◌≡◌, ℕ, ◌<◌, ◌==◌, position, vec_len, vec_capacity};
+ghost use Rattle.lines.specs.Rows.{put_before, without, revised};
 
 use rows::{insert, remove};
 use runs::Entry;
@@ -28,17 +28,11 @@ impl Numbered for Entry {
     }
 }
 
-// The place of the first element numbered n, or past the end.
-fn place<T: Copy + Numbered>(row: &[T], n: u8) -> usize
-    ensures is { result ≡ ahead T.Numbered.known n row.now }
-    ensures within { result ≤ length row.now }
+// The place of the first element numbered n.
+fn place<T: Copy + Numbered>(row: &[T], n: u8) -> Option<usize>
+    ensures { result ≡ position (λ x. T.Numbered.known x == n) row.now }
 {
-    for i in 0..row.len() {
-        if row[i].number() == n {
-            return i;
-        }
-    }
-    row.len()
+    row.iter().position(|x| x.number() == n)
 }
 
 // Before the first element numbered n, or at the end.
@@ -47,27 +41,27 @@ pub(crate) fn put_before<T: Copy + Numbered>(row: &mut Vec<T>, n: u8, x: T)
     ensures items { row.new.items ≡ put_before T.Numbered.known n x row.old.items }
     ensures capacity { vec_capacity row.new ≡ vec_capacity row.old }
 {
-    let at = place(row.as_slice(), n);
+    let at = place(row.as_slice(), n).unwrap_or(row.len());
     insert(row, at, x);
 }
 
+#[tactic(auto, using(crate::proofs::Places::out_at))]
 pub(crate) fn take_out<T: Copy + Numbered>(row: &mut Vec<T>, n: u8)
     ensures items { row.new.items ≡ without T.Numbered.known n row.old.items }
     ensures capacity { vec_capacity row.new ≡ vec_capacity row.old }
 {
-    let at = place(row.as_slice(), n);
-    if at < row.len() {
+    if let Some(at) = place(row.as_slice(), n) {
         remove(row, at);
     }
 }
 
 // In the place of the first element numbered n.
+#[tactic(auto, using(crate::proofs::Places::set_at))]
 pub(crate) fn revise<T: Copy + Numbered>(row: &mut Vec<T>, n: u8, x: T)
     ensures items { row.new.items ≡ revised T.Numbered.known n x row.old.items }
     ensures capacity { vec_capacity row.new ≡ vec_capacity row.old }
 {
-    let at = place(row.as_slice(), n);
-    if at < row.len() {
+    if let Some(at) = place(row.as_slice(), n) {
         row[at] = x;
     }
 }

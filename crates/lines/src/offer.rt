@@ -1,47 +1,49 @@
 // What is offered, and what stands in a queue.
-ghost use Rattle.std.specs.Prelude.{◌≡◌, ℕ, ◌≤◌, length, take, filter};
+ghost use Rattle.std.specs.Prelude.{◌≡◌, ℕ, ◌≤◌, length, filter, slice_get};
 ghost use Rattle.working.specs.Tasks.{Task};
 ghost use Rattle.runs.specs.Queues as Queues;
 ghost use Rattle.runs.specs.Ready.{offered};
 ghost use Rattle.lines.specs.Offers.{offers};
-ghost use Rattle.lines.specs.Lines.{line_of, Tells, shown};
+ghost use Rattle.lines.specs.Lines.{line_of, Tells};
 
 use crate::line::Line;
 use crate::state::State;
 use runs::Entry;
 
-// The numbers of the tasks that wait and are clear, and how many they are.
-fn fill(order: &[u8], states: &[State; 256], clear: &[bool; 256], into: &mut [u8; 64]) -> usize
+// The numbers of the tasks that wait and are clear, written into the row.
+fn fill<'a>(
+    order: &[u8],
+    states: &[State; 256],
+    clear: &[bool; 256],
+    row: &'a mut [u8; 64],
+) -> &'a [u8]
     requires { length order.now ≤ 64 }
-    ensures items { take result into.new ≡ filter (offers states.now clear.now) order.now }
-    ensures few { result ≤ 64 }
+    ensures items { result.now ≡ filter (offers states.now clear.now) order.now }
+    ensures few { length result.now ≤ 64 }
 {
     let mut len = 0;
-    for i in 0..order.len() {
-        let n = order[i];
-        into[len] = n;
-        len += (states[n as usize].is_waiting() & clear[n as usize]) as usize;
+    for n in order {
+        // Written before it is counted: a branch for each task was slower where some are offered and some are not.
+        row[len] = *n;
+        len += (states[*n as usize].is_waiting() & clear[*n as usize]) as usize;
     }
-    len
+    &row[..len]
 }
 
 impl Line {
-    // The numbers of the ready tasks that have no turn out, in line order, and how many they are.
-    pub fn offer(&self, into: &mut [u8; 64]) -> usize
-        ensures items { (t : ℕ → Task) → Tells self.now t → take result into.new ≡ offered (line_of self.now t) (line_of self.now t) }
-        ensures few { result ≤ 64 }
+    // The numbers of the ready tasks that have no turn out, in line order, written into the row.
+    pub fn offer<'a>(&self, row: &'a mut [u8; 64]) -> &'a [u8]
+        ensures items { (t : ℕ → Task) → Tells self.now t → result.now ≡ offered (line_of self.now t) (line_of self.now t) }
+        ensures few { length result.now ≤ 64 }
     {
-        fill(&self.order, &self.states, &self.clear, into)
+        fill(&self.order, &self.states, &self.clear, row)
     }
 
     // The entry of an object at a place.
     pub fn look(&self, object: usize, place: usize) -> Option<Entry>
-        ensures { (t : ℕ → Task) → Tells self.now t → shown result ≡ Queues.entry_at place (Queues.queue object (line_of self.now t)) }
+        ensures { (t : ℕ → Task) → Tells self.now t → result ≡ slice_get (Queues.queue object (line_of self.now t)) place }
     {
-        if object < self.queues.len() {
-            self.queues[object].entries.as_slice().get(place).copied()
-        } else {
-            None
-        }
+        let queue = self.queues.get(object)?;
+        queue.entries.get(place).copied()
     }
 }

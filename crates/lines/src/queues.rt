@@ -63,37 +63,43 @@ pub(crate) fn refresh(queues: &Vec<Queue>, clear: &mut [bool; 256])
     ensures { (n : ℕ) → n < 256 → slice_index_or clear.new n false ≡ clear_in (queues_of queues.now.items) n }
 {
     *clear = [true; 256];
-    for o in 0..queues.len() {
-        pass(queues[o].entries.as_slice(), clear);
+    for queue in queues {
+        pass(queue.entries.as_slice(), clear);
     }
 }
 
+// A loop for each change: one over a closure would say which references the closure was called with, and each caller
+// would have to show what that makes of the queues.
+
+#[tactic(auto, using(crate::proofs::Rounds::changed_none))]
 pub(crate) fn enter_all(queues: &mut Vec<Queue>, maker: u8, child: u8, ds: &[Declared])
     requires sized { length ds.now ≡ vec_len queues.old }
     requires room { (o : ℕ) → length (slice_index_or (queues_of queues.old.items) o []) < 64 }
     ensures items { (o : ℕ) → slice_index_or (queues_of queues.new.items) o [] ≡ entered maker child (slice_index_or ds.now o nothing) (slice_index_or (queues_of queues.old.items) o []) }
     ensures len { vec_len queues.new ≡ vec_len queues.old }
 {
-    for o in 0..queues.len() {
-        queues[o].enter(maker, child, ds[o]);
+    for (o, queue) in queues.iter_mut().enumerate() {
+        queue.enter(maker, child, ds[o]);
     }
 }
 
+#[tactic(auto, using(crate::proofs::Rounds::changed_none))]
 pub(crate) fn redeclare_all(queues: &mut Vec<Queue>, n: u8, ds: &[Declared])
     requires sized { length ds.now ≡ vec_len queues.old }
     ensures items { (o : ℕ) → slice_index_or (queues_of queues.new.items) o [] ≡ redeclared n (slice_index_or ds.now o nothing) (slice_index_or (queues_of queues.old.items) o []) }
     ensures len { vec_len queues.new ≡ vec_len queues.old }
 {
-    for o in 0..queues.len() {
-        queues[o].redeclare(n, ds[o]);
+    for (o, queue) in queues.iter_mut().enumerate() {
+        queue.redeclare(n, ds[o]);
     }
 }
 
+#[tactic(auto, using(crate::proofs::Rounds::changed_none))]
 pub(crate) fn leave_all(queues: &mut Vec<Queue>, n: u8)
     ensures items { (o : ℕ) → slice_index_or (queues_of queues.new.items) o [] ≡ left n (slice_index_or (queues_of queues.old.items) o []) }
     ensures len { vec_len queues.new ≡ vec_len queues.old }
 {
-    for o in 0..queues.len() {
-        queues[o].leave(n);
+    for queue in queues.iter_mut() {
+        queue.leave(n);
     }
 }

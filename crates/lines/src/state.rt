@@ -2,25 +2,25 @@
 ghost use Rattle.std.specs.Prelude.{◌≡◌};
 ghost use Rattle.lines.specs.States as States;
 
-use working::FaultKind;
+use working::Fault;
 
-// A task that was never made counts as finished; a stuck one has its fault and the line of that.
-#[derive(Clone, Copy)]
+// A task that was never made counts as finished; a stuck one has its fault.
+#[derive(Clone, Copy, Debug, PartialEq, Eq)]
 pub enum State {
     Finished,
     Waiting,
     Out,
-    Stuck(FaultKind, u32),
+    Stuck(Fault),
 }
 
-#[derive(Clone, Copy)]
+#[derive(Clone, Copy, Debug, PartialEq, Eq)]
 pub enum Event {
     Take,
     Perform,
     HandBack,
 }
 
-#[derive(Clone, Copy)]
+#[derive(Clone, Copy, Debug, PartialEq, Eq)]
 pub enum Deed {
     Refuse,
     Give,
@@ -35,7 +35,7 @@ pub fn decide(state: State, event: Event) -> Deed
         (State::Waiting, Event::Take) => Deed::Give,
         (State::Out, Event::Perform) => Deed::Step,
         (State::Out, Event::HandBack) => Deed::Return,
-        (State::Finished | State::Waiting | State::Out | State::Stuck(_, _), _) => Deed::Refuse,
+        (State::Finished | State::Waiting | State::Out | State::Stuck(_), _) => Deed::Refuse,
     }
 }
 
@@ -43,36 +43,24 @@ impl State {
     pub(crate) fn is_finished(self) -> bool
         ensures { result ≡ States.is_finished self }
     {
-        match self {
-            State::Finished => true,
-            State::Waiting | State::Out | State::Stuck(_, _) => false,
-        }
+        matches!(self, State::Finished)
     }
 
     pub(crate) fn is_waiting(self) -> bool
         ensures { result ≡ States.is_waiting self }
     {
-        match self {
-            State::Waiting => true,
-            State::Finished | State::Out | State::Stuck(_, _) => false,
-        }
+        matches!(self, State::Waiting)
     }
 
     pub(crate) fn is_out(self) -> bool
         ensures { result ≡ States.is_out self }
     {
-        match self {
-            State::Out => true,
-            State::Finished | State::Waiting | State::Stuck(_, _) => false,
-        }
+        matches!(self, State::Out)
     }
 
     pub(crate) fn is_stuck(self) -> bool
         ensures { result ≡ States.is_stuck self }
     {
-        match self {
-            State::Stuck(_, _) => true,
-            State::Finished | State::Waiting | State::Out => false,
-        }
+        matches!(self, State::Stuck(_))
     }
 }

@@ -1,6 +1,5 @@
 // The states of the tasks in the line: turns are given and given back, and tasks wait or are stuck.
 ghost use Rattle.std.specs.Prelude.{◌≡◌, ℕ, true, false, List, [], ◌∷◌, if◌then◌else◌, MatchOption, slice_index_or};
-ghost use Rattle.std.proofs.Math.Option.{some};
 ghost use Rattle.working.specs.Tasks.{Task};
 ghost use Rattle.runs.specs.Lines as Model;
 ghost use Rattle.runs.specs.Benches.{settled_line};
@@ -8,11 +7,11 @@ ghost use Rattle.runs.specs.Ready.{ready};
 ghost use Rattle.runs.specs.Events.{can_take, has_turn};
 ghost use Rattle.lines.specs.States.{is_finished, is_out, status_of};
 ghost use Rattle.lines.specs.Stored.{marked};
-ghost use Rattle.lines.specs.Lines.{state_of, line_of, Tells, But, SizedAs};
+ghost use Rattle.lines.specs.Lines.{state_of, line_of, Tells, Replaces, in_status, TellsAlike, FoundIf, SizedAs};
 
 use crate::line::Line;
 use crate::state::{Deed, Event, State, decide};
-use working::FaultKind;
+use working::Fault;
 
 // Another state for a task that is not finished.
 fn put_state(states: &mut [State; 256], n: u8, state: State)
@@ -29,8 +28,8 @@ impl Line {
     pub(crate) fn mark(&mut self, n: u8, state: State)
         requires stays { is_finished state ≡ false }
         requires clear { is_out state ≡ true → slice_index_or self.old.clear n false ≡ true }
-        ensures line { (t u : ℕ → Task) → But n t u → line_of self.new u ≡ Model.replace n (Model.member n (status_of state) (u n) ∷ []) (line_of self.old t) }
-        ensures tells { (t u : ℕ → Task) → But n t u → (u n).declared ≡ (t n).declared → Tells self.old t → Tells self.new u }
+        ensures line { Replaces n (in_status n (status_of state)) self.old self.new }
+        ensures tells { TellsAlike n self.old self.new }
         ensures sized { SizedAs self.old self.new }
         ensures states { self.new.states ≡ marked self.old.states n state }
         ensures kept { (self.new.order ≡ self.old.order) × (self.new.queues ≡ self.old.queues) }
@@ -55,38 +54,28 @@ impl Line {
     pub fn has_turn(&self, n: u8) -> bool
         ensures turn { (t : ℕ → Task) → result ≡ has_turn n (line_of self.now t) }
         ensures ready { (t : ℕ → Task) → Tells self.now t → result ≡ true → ready (line_of self.now t) (Model.member n Model.out (t n)) ≡ true }
-        ensures found { (t : ℕ → Task) → result ≡ true → Model.find n (line_of self.now t) ≡ some (Model.member n Model.out (t n)) }
+        ensures found { FoundIf result n Model.out self.now }
         ensures live { result ≡ true → is_finished (state_of self.now n) ≡ false }
     {
-        match decide(self.state(n), Event::Perform) {
-            Deed::Step => true,
-            _ => false,
-        }
+        matches!(decide(self.state(n), Event::Perform), Deed::Step)
     }
 
     pub fn any_out(&self) -> bool
         ensures { (t : ℕ → Task) → result ≡ Model.any_out (line_of self.now t) }
     {
-        for i in 0..self.order.len() {
-            if self.state(self.order[i]).is_out() {
-                return true;
-            }
-        }
-        false
+        self.order.iter().any(|n| self.state(*n).is_out())
     }
 
     // The first task in line.
+    #[tactic(auto, using(crate::proofs::Standing::first_is))]
     pub fn first(&self) -> Option<u8>
         ensures { (t : ℕ → Task) → MatchOption result (line_of self.now t ≡ []) (λ n. (rest : List Model.Member) × (line_of self.now t ≡ Model.member n (status_of (state_of self.now n)) (t n) ∷ rest)) }
     {
-        if self.order.len() > 0 {
-            Some(self.order[0])
-        } else {
-            None
-        }
+        self.order.first().copied()
     }
 
     // No task is unfinished, or the first in line is stuck.
+    #[tactic(auto, using(crate::proofs::Standing::settled_none))]
     pub fn is_settled(&self) -> bool
         ensures { (t : ℕ → Task) → result ≡ settled_line (line_of self.now t) }
     {
@@ -99,7 +88,7 @@ impl Line {
     // Gives the turn of a task that is ready and has none out.
     pub fn take(&mut self, n: u8) -> bool
         ensures granted { (t : ℕ → Task) → Tells self.old t → result ≡ can_take n (line_of self.old t) }
-        ensures found { (t : ℕ → Task) → result ≡ true → Model.find n (line_of self.old t) ≡ some (Model.member n Model.waiting (t n)) }
+        ensures found { FoundIf result n Model.waiting self.old }
         ensures line { (t : ℕ → Task) → line_of self.new t ≡ (if result then Model.replace n (Model.member n Model.out (t n) ∷ []) (line_of self.old t) else line_of self.old t) }
         ensures tells { (t : ℕ → Task) → Tells self.old t → Tells self.new t }
         ensures sized { SizedAs self.old self.new }
@@ -119,7 +108,7 @@ impl Line {
     // Takes back the turn of a task that has it out.
     pub fn hand_back(&mut self, n: u8) -> bool
         ensures granted { (t : ℕ → Task) → result ≡ has_turn n (line_of self.old t) }
-        ensures found { (t : ℕ → Task) → result ≡ true → Model.find n (line_of self.old t) ≡ some (Model.member n Model.out (t n)) }
+        ensures found { FoundIf result n Model.out self.old }
         ensures line { (t : ℕ → Task) → line_of self.new t ≡ (if result then Model.replace n (Model.member n Model.waiting (t n) ∷ []) (line_of self.old t) else line_of self.old t) }
         ensures tells { (t : ℕ → Task) → Tells self.old t → Tells self.new t }
         ensures sized { SizedAs self.old self.new }
@@ -135,19 +124,19 @@ impl Line {
 
     // After a step that changed no declarations.
     pub fn wait(&mut self, n: u8)
-        ensures line { (t u : ℕ → Task) → But n t u → line_of self.new u ≡ Model.replace n (Model.member n Model.waiting (u n) ∷ []) (line_of self.old t) }
-        ensures tells { (t u : ℕ → Task) → But n t u → (u n).declared ≡ (t n).declared → Tells self.old t → Tells self.new u }
+        ensures line { Replaces n (in_status n Model.waiting) self.old self.new }
+        ensures tells { TellsAlike n self.old self.new }
         ensures sized { SizedAs self.old self.new }
     {
         self.mark(n, State::Waiting);
     }
 
-    // After a fault, at a line.
-    pub fn stick(&mut self, n: u8, fault: FaultKind, line: u32)
-        ensures line { (t u : ℕ → Task) → But n t u → line_of self.new u ≡ Model.replace n (Model.member n (Model.stuck fault line) (u n) ∷ []) (line_of self.old t) }
-        ensures tells { (t u : ℕ → Task) → But n t u → (u n).declared ≡ (t n).declared → Tells self.old t → Tells self.new u }
+    // After a fault.
+    pub fn stick(&mut self, n: u8, fault: Fault)
+        ensures line { Replaces n (in_status n (Model.stuck fault.kind fault.line)) self.old self.new }
+        ensures tells { TellsAlike n self.old self.new }
         ensures sized { SizedAs self.old self.new }
     {
-        self.mark(n, State::Stuck(fault, line));
+        self.mark(n, State::Stuck(fault));
     }
 }

@@ -1,5 +1,5 @@
 -- One line of a declaration section, and one line of a block.
-use Rattle.std.proofs.Common.{◌≡◌, ℕ, zero, suc, ◌+◌, ◌<◌, ◌≤◌, List, [], ◌∷◌, ◌++◌, length, IfOk, Some, None, Ok, Err, Option, Result, sym, refl, ap, ◌∙◌, subst, add-one, arith}
+use Rattle.std.proofs.Common.{◌≡◌, ℕ, zero, suc, ◌+◌, ◌<◌, ◌≤◌, List, [], ◌∷◌, ◌++◌, length, Some, None, Ok, Err, Option, Result, refl, ap, ◌∙◌, add-one, arith}
 use Rattle.cards.specs.declared.lines.Declaration.{Declaration}
 use Rattle.cards.specs.Code.{Block, end, next, Statement}
 use Rattle.loading.specs.declared.refusal.LineFault.{LineFault}
@@ -12,7 +12,7 @@ use Rattle.loading.specs.declared.blocks.Closer.TheVariants as C
 use Rattle.loading.specs.declared.blocks.SectionKind.{SectionKind}
 use Rattle.loading.specs.Lines.{Line}
 use Rattle.loading.specs.Texts.{Said, upcoming}
-use Rattle.loading.specs.Blocks.{Out, got, bad, bind, Mark, more, close, wrong, mark, by_mark, read_section, closer, by_closer, statement_by, Reader, followed, block_by, read_block, AnswerIs, Forward}
+use Rattle.loading.specs.Blocks.{got, bad, bind, Mark, more, close, wrong, mark, by_mark, read_section, closer, by_closer, statement_by, Reader, followed, block_by, read_block, AnswerIs, Forward}
 
 module _ (h : ℕ) (k : SectionKind) (ds : List Declaration) (s : List Said) (l : ℕ) where
   pub section_open : s ≡ [] → read_section h k ds s l ≡ bad (Open (h + l))
@@ -37,15 +37,8 @@ module _ (h : ℕ) (k : SectionKind) (ds : List Declaration) (s : List Said) (l 
     pub section_more : (d : Declaration) (es : List Declaration) (h' l' : ℕ) → more d ≡ mark x k l → es ≡ ds ++ d ∷ [] → h' ≡ h → l' ≡ l + 1 → read_section h k ds s l ≡ read_section h' k es t l'
     section_more d es h' l' is e₁ e₂ e₃ = marked (more d) is ∙ rw (e₁, e₂, e₃, add-one) refl
 
-pub answer_along : {A B : Type 0} (f : A → B) (r : Result A LoadRefusal) (o p : Out B) (c : Cursor) → o ≡ p → AnswerIs f r p c → AnswerIs f r o c
-answer_along f r o p c e a = subst (λ q. AnswerIs f r q c) (sym e) a
-
 pub forward_both : (b c d : Cursor) → Forward b c → Forward c d → Forward b d
 forward_both b c d p q = record { fewer = omega (arith, p.fewer, q.fewer); header = q.header ∙ p.header; objects = q.objects ∙ p.objects }
-
-pub forward_trans : {A E : Type 0} (r : Result A E) (b c d : Cursor) → Forward b c → IfOk r (λ _. Forward c d) → IfOk r (λ _. Forward b d)
-forward_trans (Ok x) b c d p q = forward_both b c d p q
-forward_trans (Err e) b c d p q = tt
 
 -- one line read
 pub forward_next : (x : Said) (c d : Cursor) → upcoming c ≡ x ∷ upcoming d → d.header ≡ c.header → d.objects ≡ c.objects → Forward c d

@@ -18,8 +18,7 @@ use Rattle.loading.specs.declared.line.Keyword.{Keyword}
 use Rattle.loading.specs.declared.line.Keyword.TheVariants as K
 use Rattle.loading.specs.declared.blocks.Closer.{Closer}
 use Rattle.loading.specs.declared.blocks.Closer.TheVariants as C
-use Rattle.loading.specs.declared.blocks.Mark as Marks
-use Rattle.loading.specs.declared.blocks.Mark.TheVariants as M
+use Rattle.loading.specs.declared.blocks.Declared.{Declared}
 use Rattle.loading.specs.declared.blocks.SectionKind.{SectionKind}
 use Rattle.loading.specs.declared.blocks.SectionKind.TheVariants as S
 use Rattle.loading.specs.Lines as Lines
@@ -178,11 +177,11 @@ AnswerIs f (Err R.TooLong) o c = ⊥
 AnswerIs f (Err R.TooManyTasks) o c = ⊥
 AnswerIs f (Err R.TooManySteps) o c = ⊥
 
--- what a value of the mark type stands for, at line l
-abbrev pub mark_of : Marks.Mark → ℕ → Mark
-mark_of (M.More a s p) l = more (declaration l a s p.n)
-mark_of M.Close l = close
-mark_of M.Wrong l = wrong
+-- what line l was read as in a section
+abbrev pub mark_of : Result (Option Declared) LineFault → ℕ → Mark
+mark_of (Ok (Some d)) l = more (declaration l d.access d.level d.pointer.n)
+mark_of (Ok None) l = close
+mark_of (Err e) l = wrong
 
 abbrev pub section_of : Cards.Section → List Declaration
 section_of s = vec_items s.lines

@@ -14,13 +14,17 @@ use Rattle.loading.specs.declared.refusal.LineFault.TheVariants.{Word}
 use Rattle.loading.specs.declared.refusal.LoadRefusal.{LoadRefusal}
 use Rattle.loading.specs.declared.refusal.LoadRefusal.TheVariants as R
 use Rattle.loading.specs.declared.cursor.Cursor.{Cursor}
-use Rattle.loading.specs.declared.header.Header as Rust
+use Rattle.loading.specs.declared.head.Header as Rust
 use Rattle.loading.specs.Lines.{then, find}
 use Rattle.loading.specs.Texts.{text_line, rest_of, text_number}
 
 -- a fixed word, one word more read by f, and no other
 abbrev pub worded : {A : Type 0} → List ℕ → (Seen → Result A WordFault) → Seen → Seen → Seen → Result A WordFault
 worded v f s t u = then (exact v s) (λ _. then (f t) (λ x. then (no_word u) (λ _. Ok x)))
+
+-- the words of line n by that form
+abbrev pub worded_form : {A : Type 0} → List ℕ → (Seen → Result A WordFault) → List (List ℕ) → ℕ → Result A WordFault
+worded_form v f ws n = worded v f (first ws n) (second ws n) (third ws n)
 
 abbrev pub kinds : List (List ℕ × KindName)
 kinds = (codes "tally", Kind.Tally) ∷ (codes "flags", Kind.Flags) ∷ []

@@ -1,5 +1,6 @@
 -- What one line of the lines section says, by its words: the first word names a form, and each form has its words.
 use Rattle.std.specs.Prelude.{ℕ, cond, List, [], ◌∷◌, ℤ, Some, None, Ok, Err, codes, Option, Result}
+use Rattle.std.specs.Borrow.{Bor}
 use Rattle.cards.specs.declared.lines.Access.{Access}
 use Rattle.cards.specs.declared.lines.Access.TheVariants.{Rd, Wr, Cm}
 use Rattle.cards.specs.declared.lines.Level.{Level}
@@ -32,6 +33,11 @@ abbrev pub find : {A : Type 0} → List (List ℕ × A) → List ℕ → Option 
 find [] w = None
 find (e ∷ es) w = cond (is_word w e.0) (Some e.1) (find es w)
 
+-- a table of words as the code holds it
+abbrev pub entries : {A : Type 0} → List (Bor (List ℕ) × A) → List (List ℕ × A)
+entries [] = []
+entries (e ∷ es) = (e.0.now, e.1) ∷ entries es
+
 abbrev pub statements : List (List ℕ × Verb)
 statements = (codes "set", V.Set) ∷ (codes "add", V.Add) ∷ (codes "point", V.Point) ∷ (codes "alias", V.Alias) ∷ (codes "read", V.Read) ∷ (codes "write", V.Write) ∷ (codes "join", V.Join) ∷ (codes "if", V.If) ∷ (codes "repeat", V.Repeat) ∷ []
 
@@ -54,6 +60,10 @@ verb w = or_else (find statements w) (or_else (find keywords w) (find declaratio
 -- two of them, and no word more
 abbrev pub pair : {A B : Type 0} → (Seen → Result A WordFault) → (Seen → Result B WordFault) → Seen → Seen → Seen → Result (A × B) WordFault
 pair f g s t u = then (f s) (λ a. then (g t) (λ b. then (no_word u) (λ _. Ok (a, b))))
+
+-- the same, of what was read already
+abbrev pub paired : {A B : Type 0} → Result A WordFault → Result B WordFault → Seen → Result (A × B) WordFault
+paired x y u = pair (λ _. x) (λ _. y) u u u
 
 abbrev pub two : {A B : Type 0} → (Seen → Result A WordFault) → (Seen → Result B WordFault) → (A → B → Line) → Seen → Seen → Seen → Result Line WordFault
 two f g make s t u = then (pair f g s t u) (λ p. Ok (make p.0 p.1))
@@ -101,8 +111,3 @@ line_of (L.Keyword k) = keyword k
 abbrev pub said : {E : Type 0} → Result Rust.Line E → Result Line E
 said (Ok x) = Ok (line_of x)
 said (Err e) = Err e
-
--- a pair by what its parts stand for
-abbrev pub both : {A B C D E : Type 0} → (A → C) → (B → D) → Result (A × B) E → Result (C × D) E
-both f g (Ok p) = Ok (f p.0, g p.1)
-both f g (Err e) = Err e

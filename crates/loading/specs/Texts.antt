@@ -7,7 +7,7 @@ use Rattle.words.specs.Tokens.{words}
 use Rattle.loading.specs.declared.refusal.LineFault.{LineFault}
 use Rattle.loading.specs.declared.refusal.LineFault.TheVariants.{Word, Missing, Unended, Surplus}
 use Rattle.loading.specs.declared.cursor.Cursor.{Cursor}
-use Rattle.loading.specs.declared.line.Line as Rust
+use Rattle.loading.specs.declared.texts.Numbered.{Numbered}
 use Rattle.loading.specs.Lines.{Line, line_of, line_said}
 
 -- the bytes of the first line of s, which is line n of its text
@@ -61,7 +61,7 @@ Takes (Ok b) c d = (text_line (rest_of c) (text_number c) ≡ Ok b.now) × Moved
 Takes (Err e) c d = text_line (rest_of c) (text_number c) ≡ Err e
 
 -- what asking for the next line of the section answers and leaves
-abbrev pub Nexts : Result (Option Rust.Line) LineFault → Cursor → Cursor → Type 0
+abbrev pub Nexts : Result (Option Numbered) LineFault → Cursor → Cursor → Type 0
 Nexts (Ok None) c d = (upcoming c ≡ []) × (upcoming d ≡ []) × (d.line ≡ c.line) × (d.header ≡ c.header) × (d.objects ≡ c.objects)
-Nexts (Ok (Some x)) c d = (upcoming c ≡ Ok (line_of x) ∷ upcoming d) × (d.line ≡ c.line + 1) × (d.header ≡ c.header) × (d.objects ≡ c.objects)
+Nexts (Ok (Some x)) c d = (upcoming c ≡ Ok (line_of x.line) ∷ upcoming d) × (d.line ≡ c.line + 1) × (d.header ≡ c.header) × (d.objects ≡ c.objects) × (x.number ≡ text_number c)
 Nexts (Err e) c d = upcoming c ≡ Err e ∷ []

@@ -1,184 +1,46 @@
 // Reads the lines before the lines section.
-ghost use Rattle.std.specs.Prelude.{◌≡◌, ◌+◌, ◌≤◌, [], IfOk, vec_len, OnOk};
-ghost use Rattle.words.specs.Tokens.{words, seen};
+ghost use Rattle.std.specs.Prelude.{◌≡◌, ◌+◌, [], Ok, Result, IfOk, vec_len, OnOk};
+ghost use Rattle.words.specs.declared.fault.WordFault.{WordFault};
+ghost use Rattle.words.specs.declared.tokens.Token.{Token};
+ghost use Rattle.words.specs.Tokens.{Seen, seen};
 ghost use Rattle.loading.specs.Texts.{rest_of, text_number};
 ghost use Rattle.loading.specs.Headers as Headers;
-ghost use Rattle.loading.specs.Lines.{find};
-ghost use Rattle.loading.specs.Headers.{kinds, orders, kind_name, order_name, bench_form, kind_form, order_form, objects_form, lines_form, literal_form, literals_after, HeaderLine, HeaderIs, literals_of, header_of};
+ghost use Rattle.loading.specs.Headers.{literal_form, literals_after, worded_form, HeaderLine, HeaderIs, literals_of, header_of};
 
 use crate::cursor::Cursor;
+use crate::head::Header;
 use crate::refusal::{LineFault, LoadRefusal};
-use cards::{KindName, OrderName};
+use crate::tables::{KINDS, ORDERS, named};
 use std::alloc::Global;
-use words::{Token, WordFault, same, tokenize};
+use words::{Token, WordFault, tokenize};
 
-// What the header says.
-#[derive(Drop)]
-pub struct Header {
-    pub kind: KindName,
-    pub order: OrderName,
-    pub words: Vec<i16>,
-    pub lines: u16,
-}
-
-fn find_kind(s: &[u8]) -> Option<KindName>
-    ensures { result ≡ find kinds s.now }
+// The next line: a fixed word, one word more as `read` reads it, and no other.
+fn worded_line<T: Drop, F: FnOnce(Token<'_>) -> Result<T, WordFault>>(
+    lines: &mut Cursor<'_>,
+    word: &[u8],
+    read: F,
+) -> Result<T, LineFault>
+    requires { F.IsAlwaysCallable read }
+    ensures form { (f : Seen → Result T WordFault) → ((t : Token) (r : Result T WordFault) → F.post read t r → r ≡ f (seen t)) → HeaderLine (worded_form word.now f) result lines.old lines.new }
+    ensures read { IfOk result (λ x. (t : Token) × F.post read t (Ok x)) }
 {
-    if same(s, b"tally") {
-        return Some(KindName::Tally);
-    }
-    if same(s, b"flags") {
-        return Some(KindName::Flags);
-    }
-    None
+    let line = lines.number();
+    let words = tokenize(lines.take_line()?, line);
+    words.first.exactly(word)?;
+    let said = read(words.second)?;
+    words.third.nothing()?;
+    Ok(said)
 }
 
-fn find_order(s: &[u8]) -> Option<OrderName>
-    ensures { result ≡ find orders s.now }
-{
-    if same(s, b"first") {
-        return Some(OrderName::First);
-    }
-    if same(s, b"last") {
-        return Some(OrderName::Last);
-    }
-    if same(s, b"turns") {
-        return Some(OrderName::Turns);
-    }
-    if same(s, b"narrow") {
-        return Some(OrderName::Narrow);
-    }
-    None
-}
-
-fn read_kind(t: Token<'_>) -> Result<KindName, WordFault>
-    ensures { result ≡ kind_name (seen t.entry) }
-{
-    match t {
-        Token::Word { bytes, place } => find_kind(bytes).ok_or(WordFault::Unfit(place)),
-        Token::Absent { place } => Err(WordFault::Missing(place)),
-    }
-}
-
-fn read_order(t: Token<'_>) -> Result<OrderName, WordFault>
-    ensures { result ≡ order_name (seen t.entry) }
-{
-    match t {
-        Token::Word { bytes, place } => find_order(bytes).ok_or(WordFault::Unfit(place)),
-        Token::Absent { place } => Err(WordFault::Missing(place)),
-    }
-}
-
-// The forms of the header's lines.
-
-fn bench_words(bytes: &[u8], line: u32) -> Result<(), WordFault>
-    ensures { result ≡ bench_form (words bytes.now) line }
-{
-    let t = tokenize(bytes, line);
-    t.first.exactly(b"bench")?;
-    t.second.exactly(b"2")?;
-    t.third.nothing()
-}
-
-fn kind_words(bytes: &[u8], line: u32) -> Result<KindName, WordFault>
-    ensures { result ≡ kind_form (words bytes.now) line }
-{
-    let t = tokenize(bytes, line);
-    t.first.exactly(b"kind")?;
-    let kind = read_kind(t.second)?;
-    t.third.nothing()?;
-    Ok(kind)
-}
-
-fn order_words(bytes: &[u8], line: u32) -> Result<OrderName, WordFault>
-    ensures { result ≡ order_form (words bytes.now) line }
-{
-    let t = tokenize(bytes, line);
-    t.first.exactly(b"order")?;
-    let order = read_order(t.second)?;
-    t.third.nothing()?;
-    Ok(order)
-}
-
-fn objects_words(bytes: &[u8], line: u32) -> Result<u16, WordFault>
-    ensures value { result ≡ objects_form (words bytes.now) line }
-    ensures low { IfOk result (λ n. 1 ≤ n) }
-    ensures high { IfOk result (λ n. n ≤ 16) }
-{
-    let t = tokenize(bytes, line);
-    t.first.exactly(b"objects")?;
-    let count = t.second.number(1, 16)?;
-    t.third.nothing()?;
-    Ok(count)
-}
-
-fn lines_words(bytes: &[u8], line: u32) -> Result<u16, WordFault>
-    ensures value { result ≡ lines_form (words bytes.now) line }
-    ensures high { IfOk result (λ n. n ≤ 256) }
-{
-    let t = tokenize(bytes, line);
-    t.first.exactly(b"lines")?;
-    let count = t.second.number(0, 256)?;
-    t.third.nothing()?;
-    Ok(count)
-}
-
-fn literal_words(bytes: &[u8], line: u32) -> Result<i16, WordFault>
-    ensures { result ≡ literal_form (words bytes.now) line }
-{
-    let t = tokenize(bytes, line);
-    let literal = t.first.literal()?;
-    t.second.nothing()?;
-    Ok(literal)
-}
-
-// The next line by its form.
-macro_rules! by_form {
-    ($lines:expr, $words:ident) => {{
-        let line = $lines.number();
-        let bytes = $lines.take_line()?;
-        let said = $words(bytes, line)?;
-        Ok(said)
-    }};
-}
-
-fn bench_line(lines: &mut Cursor<'_>) -> Result<(), LineFault>
-    ensures { HeaderLine bench_form result lines.old lines.new }
-{
-    by_form!(lines, bench_words)
-}
-
-fn kind_line(lines: &mut Cursor<'_>) -> Result<KindName, LineFault>
-    ensures { HeaderLine kind_form result lines.old lines.new }
-{
-    by_form!(lines, kind_words)
-}
-
-fn order_line(lines: &mut Cursor<'_>) -> Result<OrderName, LineFault>
-    ensures { HeaderLine order_form result lines.old lines.new }
-{
-    by_form!(lines, order_words)
-}
-
-fn objects_line(lines: &mut Cursor<'_>) -> Result<u16, LineFault>
-    ensures value { HeaderLine objects_form result lines.old lines.new }
-    ensures low { IfOk result (λ n. 1 ≤ n) }
-    ensures high { IfOk result (λ n. n ≤ 16) }
-{
-    by_form!(lines, objects_words)
-}
-
-fn lines_line(lines: &mut Cursor<'_>) -> Result<u16, LineFault>
-    ensures value { HeaderLine lines_form result lines.old lines.new }
-    ensures high { IfOk result (λ n. n ≤ 256) }
-{
-    by_form!(lines, lines_words)
-}
-
+#[tactic(auto, unfolding(crate::specs::Headers::literal_form))]
 fn literal_line(lines: &mut Cursor<'_>) -> Result<i16, LineFault>
     ensures { HeaderLine literal_form result lines.old lines.new }
 {
-    by_form!(lines, literal_words)
+    let line = lines.number();
+    let words = tokenize(lines.take_line()?, line);
+    let literal = words.first.literal()?;
+    words.second.nothing()?;
+    Ok(literal)
 }
 
 // So many literals, one a line.
@@ -200,15 +62,13 @@ pub(crate) fn read_header(heap: Global, lines: &mut Cursor<'_>) -> Result<Header
     requires { text_number lines.old ≡ 1 }
     ensures value { HeaderIs header_of result (Headers.read_header (rest_of lines.old)) lines.new }
     ensures number { IfOk result (λ h. text_number lines.new ≡ 6 + vec_len h.words) }
-    ensures objects { IfOk result (λ h. (1 ≤ vec_len h.words) × (vec_len h.words ≤ 16)) }
-    ensures lines { IfOk result (λ h. h.lines ≤ 256) }
 {
-    bench_line(lines)?;
-    let kind = kind_line(lines)?;
-    let order = order_line(lines)?;
-    let objects = objects_line(lines)?;
+    worded_line(lines, b"bench", |word| word.exactly(b"2"))?;
+    let kind = worded_line(lines, b"kind", |word| named(word, &KINDS))?;
+    let order = worded_line(lines, b"order", |word| named(word, &ORDERS))?;
+    let objects = worded_line(lines, b"objects", |word| word.number(1, 16))?;
     let words = read_literals(heap, lines, objects)?;
-    let count = lines_line(lines)?;
+    let count = worded_line(lines, b"lines", |word| word.number(0, 256))?;
     Ok(Header {
         kind,
         order,

@@ -6,11 +6,13 @@
 
 mod blocks;
 mod cursor;
+mod head;
 mod header;
 mod line;
 mod read_line;
 mod refusal;
 mod slot;
+mod tables;
 mod tell;
 mod texts;
 

@@ -7,7 +7,7 @@ use std::alloc::{AllocError, AllocFailed};
 use words::WordFault;
 
 // The first fault of a line, with the line's number in the text.
-#[derive(Clone, Copy)]
+#[derive(Clone, Copy, Debug, PartialEq, Eq)]
 pub enum LineFault {
     Word(WordFault),
     Missing { line: u32 },
@@ -20,7 +20,7 @@ pub enum LineFault {
 }
 
 // Why a text is no card. Want of memory is no fault of the text.
-#[derive(Clone, Copy)]
+#[derive(Clone, Copy, Debug, PartialEq, Eq)]
 pub enum LoadRefusal {
     TooLong,
     Line(LineFault),
@@ -30,12 +30,14 @@ pub enum LoadRefusal {
 }
 
 // A refusal's number, line and word.
-#[derive(Clone, Copy)]
+#[derive(Clone, Copy, Debug, PartialEq, Eq)]
 pub struct Told {
     pub number: u32,
     pub line: u32,
     pub word: u32,
 }
+
+// By hand: what a derived `From` makes stands in no contract, and the readers' clauses name it.
 
 impl From<WordFault> for LineFault {
     ghost from_gives = { λ w r. r ≡ Word w };

@@ -1,15 +1,16 @@
 // A place for a card.
-ghost use Rattle.std.specs.Prelude.{◌≡◌, ◌+◌, ◌≤◌, length, IfOk};
+ghost use Rattle.std.specs.Prelude.{◌≡◌, ◌+◌, length, IfOk};
 ghost use Rattle.cards.specs.Cards.{card_of, blank};
 ghost use Rattle.cards.specs.Trees.{block_of};
 ghost use Rattle.loading.specs.Texts.{rest_of, text_number};
 ghost use Rattle.loading.specs.Headers.{header_of};
-ghost use Rattle.loading.specs.Loading.{card, bounded, section_ended, Begins, BodyIs, FitsCard, reading, ReadingIs, held_card, Loads};
+ghost use Rattle.loading.specs.Loading.{card, bounded, BodyIs, FitsCard, reading, ReadingIs, held_card, Loads};
 
-use crate::blocks::{Closer, read_block};
+use crate::blocks::read_block;
 use crate::cursor::Cursor;
-use crate::header::{Header, read_header};
-use crate::refusal::{LineFault, LoadRefusal};
+use crate::head::Header;
+use crate::header::read_header;
+use crate::refusal::LoadRefusal;
 use cards::{Block, Card, Limit};
 use std::alloc::{AllocError, Global};
 
@@ -25,41 +26,14 @@ pub struct Slot {
     card: Card,
 }
 
-// The cursor at the start of the lines section, after the header's lines.
-fn begin_section<'a>(lines: Cursor<'a>, left: u16, objects: u8) -> Cursor<'a>
-    requires { 1 ≤ text_number lines }
-    ensures { Begins lines.entry left objects result }
-{
-    let header = lines.number() - 1;
-    Cursor {
-        rest: lines.rest,
-        header,
-        line: 1,
-        left: u32::from(left),
-        objects,
-    }
-}
-
-// Main's block is ended by the end of the section.
-fn ended_section(closer: Closer) -> Result<(), LineFault>
-    ensures { result ≡ section_ended closer }
-{
-    match closer {
-        Closer::End { line } => Err(LineFault::Misplaced { line }),
-        Closer::Else { line } => Err(LineFault::Misplaced { line }),
-        Closer::Out => Ok(()),
-    }
-}
-
 // Reads the lines section after the header.
 fn read_body(heap: Global, lines: Cursor<'_>, header: &Header) -> Result<Block, LoadRefusal>
-    requires number { text_number lines ≡ 6 + length (header_of header.now).words }
-    requires objects { length (header_of header.now).words ≤ 16 }
+    requires { text_number lines ≡ 6 + length (header_of header.now).words }
     ensures { BodyIs result (header_of header.now) (rest_of lines.entry) }
 {
-    let mut section = begin_section(lines, header.lines, header.words.len() as u8);
+    let mut section = lines.begin_section(header);
     let (body, closer) = read_block(heap, &mut section, MOST_DEPTH)?;
-    ended_section(closer)?;
+    closer.ended_section()?;
     Ok(body)
 }
 
@@ -68,17 +42,11 @@ fn bound(header: Header, body: Block) -> Result<Card, LoadRefusal>
     requires { FitsCard (card (header_of header) (block_of body)) }
     ensures { ReadingIs result (bounded (card (header_of header) (block_of body))) }
 {
-    match Card::new(header.kind, header.order, header.words, body) {
-        Ok(card) => Ok(card),
-        Err(limit) => match limit {
-            Limit::Tasks => Err(LoadRefusal::TooManyTasks),
-            Limit::Steps => Err(LoadRefusal::TooManySteps),
-            Limit::Objects => unreachable(),
-            Limit::Lines => unreachable(),
-            Limit::Depth => unreachable(),
-            Limit::Pointed => unreachable(),
-        },
-    }
+    Card::new(header.kind, header.order, header.words, body).map_err(|limit| match limit {
+        Limit::Tasks => LoadRefusal::TooManyTasks,
+        Limit::Steps => LoadRefusal::TooManySteps,
+        Limit::Objects | Limit::Lines | Limit::Depth | Limit::Pointed => unreachable(),
+    })
 }
 
 // Reads a text as a card.

@@ -1,68 +1,42 @@
 // A refusal's number, line and word.
 ghost use Rattle.std.specs.Prelude.{◌≡◌};
-ghost use Rattle.loading.specs.Refusals.{place_of, line_told, told};
+ghost use Rattle.loading.specs.Refusals.{tell, line_told, told};
 
 use crate::refusal::{LineFault, LoadRefusal, Told};
-use words::{Place, WordFault};
+use words::WordFault;
 
-fn place(fault: WordFault) -> Place
-    ensures { result ≡ place_of fault }
-{
-    match fault {
-        WordFault::Unfit(place) => place,
-        WordFault::Missing(place) => place,
-        WordFault::Surplus(place) => place,
+impl Told {
+    // A fault of a whole line, or of the whole text at line 0.
+    fn of_line(number: u32, line: u32) -> Told
+        ensures { result ≡ tell number line 0 }
+    {
+        Told {
+            number,
+            line,
+            word: 0,
+        }
     }
 }
 
-impl LineFault {
-    fn told(self) -> Told
-        ensures { result ≡ line_told self }
-    {
-        match self {
-            LineFault::Word(fault) => {
-                let at = place(fault);
-                Told {
-                    number: 2,
-                    line: at.line,
-                    word: at.word,
-                }
-            }
-            LineFault::Missing { line } => Told {
+impl From<LineFault> for Told {
+    ghost from_gives = { λ f t. t ≡ line_told f };
+
+    fn from(fault: LineFault) -> Told {
+        match fault {
+            LineFault::Word(
+                WordFault::Unfit(at) | WordFault::Missing(at) | WordFault::Surplus(at),
+            ) => Told {
                 number: 2,
-                line,
-                word: 0,
+                line: at.line,
+                word: at.word,
             },
-            LineFault::Unended { line } => Told {
-                number: 2,
-                line,
-                word: 0,
-            },
-            LineFault::Surplus { line } => Told {
-                number: 2,
-                line,
-                word: 0,
-            },
-            LineFault::Misplaced { line } => Told {
-                number: 3,
-                line,
-                word: 0,
-            },
-            LineFault::TooDeep { line } => Told {
-                number: 3,
-                line,
-                word: 0,
-            },
-            LineFault::Open { line } => Told {
-                number: 3,
-                line,
-                word: 0,
-            },
-            LineFault::NoObject { line } => Told {
-                number: 4,
-                line,
-                word: 0,
-            },
+            LineFault::Missing { line }
+            | LineFault::Unended { line }
+            | LineFault::Surplus { line } => Told::of_line(2, line),
+            LineFault::Misplaced { line }
+            | LineFault::TooDeep { line }
+            | LineFault::Open { line } => Told::of_line(3, line),
+            LineFault::NoObject { line } => Told::of_line(4, line),
         }
     }
 }
@@ -73,22 +47,10 @@ impl LoadRefusal {
         ensures { result ≡ told self }
     {
         match self {
-            LoadRefusal::TooLong => Some(Told {
-                number: 1,
-                line: 0,
-                word: 0,
-            }),
-            LoadRefusal::Line(fault) => Some(fault.told()),
-            LoadRefusal::TooManyTasks => Some(Told {
-                number: 5,
-                line: 0,
-                word: 0,
-            }),
-            LoadRefusal::TooManySteps => Some(Told {
-                number: 6,
-                line: 0,
-                word: 0,
-            }),
+            LoadRefusal::TooLong => Some(Told::of_line(1, 0)),
+            LoadRefusal::Line(fault) => Some(Told::from(fault)),
+            LoadRefusal::TooManyTasks => Some(Told::of_line(5, 0)),
+            LoadRefusal::TooManySteps => Some(Told::of_line(6, 0)),
             LoadRefusal::Memory => None,
         }
     }

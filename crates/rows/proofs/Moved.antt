@@ -1,8 +1,8 @@
 -- What a row holds once a part of it is moved by one place.
-use Rattle.std.proofs.Common.{◌≡◌, ℕ, suc, ◌+◌, ◌-◌, ◌<◌, ◌≤◌, List, [], ◌∷◌, ◌++◌, length, take, drop, set, sym, refl, ap, ◌∙◌, ap₂, append-nil, add-one, arith, length-append, length-drop, length-take}
+use Rattle.std.proofs.Common.{◌≡◌, ℕ, suc, ◌+◌, ◌-◌, ◌<◌, List, [], ◌∷◌, ◌++◌, length, take, drop, set, sym, ap, ◌∙◌, ap₂, append-nil, add-one, arith, length-append, length-take}
 use lib.Seq.{paste}
 use Rattle.std.specs.List.{insert, remove}
-use Rattle.std.proofs.lemmas.List.{set_split, take-take, take_at, take-append-le, drop_at, drop_all, drop-take, take_rest}
+use Rattle.std.proofs.lemmas.List.{set_split, take-take, take-append-le, drop_at, drop_all, drop-take, take_rest}
 
 -- one place up, with x in the gap
 pub moved_up : {A : Type 0} (xs : List A) (at : ℕ) (x : A) → at < length xs → set (paste xs (at + 1) (drop at xs) (length xs - 1 - at)) at x ≡ insert (take (length xs - 1) xs) at x
@@ -24,16 +24,3 @@ pub moved_down : {A : Type 0} (xs : List A) (at : ℕ) → at < length xs → pa
 moved_down {A} xs at lt =
     let count : at + (length xs - (at + 1)) ≡ length xs - 1 = omega arith in
     ap₂ (λ (b e : List A). (take at xs ++ b) ++ e) (take_rest xs (at + 1) ∙ ap (λ (m : ℕ). drop m xs) (add-one at)) (ap (λ (m : ℕ). drop m xs) count)
-
--- a Vec of n elements whose slice holds row now
-pub written : {A : Type 0} (items row : List A) (n : ℕ) → length row ≡ n → take n (row ++ drop (length row) items) ≡ row
-written items row n e = take_at row (drop (length row) items) n e
-
-pub put_in : {A : Type 0} (items s row : List A) (at : ℕ) (x : A) → at ≤ length items → s ≡ items ++ x ∷ [] → row ≡ insert (take (length s - 1) s) at x → row ≡ insert items at x
-put_in {A} items s row at x le more is =
-    let long : length s ≡ length items + 1 = ap length more ∙ simp length-append in
-    is ∙ ap (λ (l : List A). insert l at x) (ap₂ (λ (k : ℕ) (l : List A). take k l) (omega arith) more ∙ take_at items (x ∷ []) (length items) refl)
-
-pub taken_out : {A : Type 0} (items row : List A) (at : ℕ) → at < length items → row ≡ remove items at ++ drop (length items - 1) items → take (length items - 1) row ≡ remove items at
-taken_out items row at lt is =
-    ap (take (length items - 1)) is ∙ take_at (remove items at) (drop (length items - 1) items) (length items - 1) (simp (length-append, length-take, length-drop) (omega arith))

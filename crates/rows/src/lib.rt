@@ -31,8 +31,7 @@ pub fn insert<T: Copy>(row: &mut Vec<T>, at: usize, x: T)
     ensures items { row.new.items ≡ insert row.old.items at x }
     ensures capacity { vec_capacity row.new ≡ vec_capacity row.old }
 {
-    row.push_reserved(x);
-    insert_before(row.as_mut_slice(), at, x);
+    row.insert(at, x).unwrap();
 }
 
 pub fn remove<T: Copy>(row: &mut Vec<T>, at: usize)
@@ -40,6 +39,5 @@ pub fn remove<T: Copy>(row: &mut Vec<T>, at: usize)
     ensures items { row.new.items ≡ remove row.old.items at }
     ensures capacity { vec_capacity row.new ≡ vec_capacity row.old }
 {
-    remove_at(row.as_mut_slice(), at);
-    let _ = row.pop();
+    row.remove(at);
 }

@@ -1,6 +1,5 @@
 -- A sheet by what it was made of.
-use Rattle.std.proofs.Common.{◌≡◌, ℕ, List, take, IfOk, Some, Ok, Err, vec_items, Result, Vec, sym, ap, ◌∙◌, arith}
-use mathlib.Core.Option.{some}
+use Rattle.std.proofs.Common.{◌≡◌, ℕ, List, IfOk, Some, Ok, Err, vec_items, Result, Vec, sym, ap, ◌∙◌}
 use Rattle.std.specs.declared.alloc.AllocError.{AllocError}
 use Rattle.std.specs.declared.alloc.Global.{Global}
 use Rattle.kinds.specs.Kinds.{Kind}
@@ -21,18 +20,18 @@ pub made_along : (r : Result (Vec ℕ Global) AllocError) (x y : List ℕ) → x
 made_along (Ok v) x y e h = h ∙ e
 made_along (Err z) x y e h = tt
 
-sheet_came : (k : Kind) (c : Card) (r : Came) (o : Outcome) → serially k c ≡ some r → r.outcome ≡ o → outcome_sheet k r.made r.steps o ≡ sheet_of k c
+sheet_came : (k : Kind) (c : Card) (r : Came) (o : Outcome) → serially k c ≡ Some r → r.outcome ≡ o → outcome_sheet k r.made r.steps o ≡ sheet_of k c
 unfolding sheet_of result_sheet
 sheet_came k c r o e f = ap (outcome_sheet k r.made r.steps) (sym f) ∙ ap (result_sheet k) (sym e)
 
--- the words xs are those of the outcome, and n is the depth of the place
-pub sheet_words : (k : Kind) (c : Card) (r : Came) (ws xs : List ℕ) → serially k c ≡ some r → r.outcome ≡ words ws → xs ≡ ws → run_sheet k r.made r.steps xs ≡ sheet_of k c
+-- the words xs are those of the outcome, and ranks those of the place
+pub sheet_words : (k : Kind) (c : Card) (r : Came) (ws xs : List ℕ) → serially k c ≡ Some r → r.outcome ≡ words ws → xs ≡ ws → run_sheet k r.made r.steps xs ≡ sheet_of k c
 unfolding outcome_sheet
 sheet_words k c r ws xs e f g = ap (run_sheet k r.made r.steps) g ∙ sheet_came k c r (words ws) e f
 
-pub sheet_fault : (k : Kind) (c : Card) (r : Came) (f : FaultKind) (l d n : ℕ) (ranks : List ℕ) → serially k c ≡ some r → r.outcome ≡ fault f l (take d ranks) → n ≡ d → fault_sheet f l (take n ranks) ≡ sheet_of k c
+pub sheet_fault : (k : Kind) (c : Card) (r : Came) (f : FaultKind) (l : ℕ) (place ranks : List ℕ) → serially k c ≡ Some r → r.outcome ≡ fault f l place → ranks ≡ place → fault_sheet f l ranks ≡ sheet_of k c
 unfolding outcome_sheet
-sheet_fault k c r f l d n ranks e g h = ap (λ m. fault_sheet f l (take m ranks)) h ∙ sheet_came k c r (fault f l (take d ranks)) e g
+sheet_fault k c r f l place ranks e g h = ap (fault_sheet f l) h ∙ sheet_came k c r (fault f l place) e g
 
 pub text_accepted : (s : List ℕ) (c : Card) → reading s ≡ accepted c → card_sheet c ≡ text_sheet s
 unfolding text_sheet
@@ -45,4 +44,4 @@ text_refused s TooLong t a b e l = ap told_sheet e ∙ ap reading_sheet (sym l.0
 text_refused s (Line z) t a b e l = ap told_sheet e ∙ ap reading_sheet (sym l.0)
 text_refused s TooManyTasks t a b e l = ap told_sheet e ∙ ap reading_sheet (sym l.0)
 text_refused s TooManySteps t a b e l = ap told_sheet e ∙ ap reading_sheet (sym l.0)
-text_refused s Memory t a b e l = let z : ◌≡◌ {A = ℕ} 0 1 = cc in absurd (omega arith)
+text_refused s Memory t a b e l = cc

@@ -20,7 +20,7 @@ use schedulers::{CardOrder, Scheduler};
 use sheets::{LONGEST, fault_sheet, refused_sheet, run_sheet};
 use std::alloc::{AllocError, Global};
 pub use worked::worked_rows;
-use working::{Outcome, work_serially};
+use working::{Worked, work_serially};
 use written::load_card;
 
 // One bench is open at a time, so one run number will do.
@@ -34,16 +34,14 @@ pub fn serial_sheet<K: ValueKind>(
 ) -> Result<Vec<u8>, AllocError>
     ensures { IfOk result (λ v. v.items ≡ sheet_of (K.kind kind.now) (card_of card.now)) }
 {
-    let worked = work_serially(heap, kind, card)?;
-    let made = worked.made;
-    let steps = worked.steps;
-    match worked.outcome {
-        Outcome::Words(words) => run_sheet(heap, kind, made, steps, &words),
-        Outcome::Fault {
-            kind: fault,
-            line,
-            place,
-        } => { fault_sheet(heap, fault, line, &place.ranks[0..place.depth as usize]) }
+    let Worked {
+        outcome,
+        steps,
+        made,
+    } = work_serially(heap, kind, card)?;
+    match outcome {
+        Ok(words) => run_sheet(heap, kind, made, steps, &words),
+        Err(ended) => fault_sheet(heap, ended.fault, ended.place.ranks()),
     }
 }
 
@@ -79,7 +77,8 @@ pub fn card_sheet(heap: Global, card: &Card) -> Result<Vec<u8>, AllocError>
 pub fn ordered_sheet(heap: Global, card: &Card) -> Result<Vec<u8>, AllocError>
     ensures { IfOk result (λ v. v.items ≡ Texts.card_sheet (card_of card.now)) }
 {
-    let mut order = CardOrder::new(card.order());
+    let mut order = CardOrder::from(card.order());
+    // The arms of `card_sheet` again: each has a type of its own, and no closure takes a value of any type.
     match card.kind() {
         KindName::Tally => bench_sheet(heap, &Tally, card, &mut order),
         KindName::Flags => bench_sheet(heap, &Flags, card, &mut order),

@@ -1,12 +1,11 @@
 -- Two tasks that do not bar each other: what they ask commutes.
-use Rattle.std.proofs.Common.{◌≡◌, ℕ, zero, suc, ◌≢◌, List, [], ◌∷◌, get_or, set, sym, refl, ap, ⊎_elim, arith}
+use Rattle.std.proofs.Common.{◌≡◌, ℕ, zero, suc, ◌≢◌, List, [], ◌∷◌, get_or, set, sym, refl, ap, ⊎_elim}
 use Rattle.std.specs.List.{AllByRecursion}
 use Rattle.std.proofs.lemmas.List.{get_or-set_other, set_comm}
 use Rattle.std.proofs.lemmas.Bool.{cases_eq}
 use Rattle.kinds.specs.Kinds.{IsWord, Kind, Lawful}
 use Rattle.cards.specs.declared.lines.Access.{Access}
 use Rattle.cards.specs.declared.lines.Access.TheVariants.{Rd, Wr, Cm}
-use Rattle.cards.specs.declared.lines.Level.{Level}
 use Rattle.cards.specs.declared.lines.Level.TheVariants.{Absent, Immediate}
 use Rattle.working.specs.Tasks.{Task}
 use Rattle.working.specs.Requests.{Request, fault, quiet, read, write, join, stored, stepped, reply}
@@ -31,12 +30,9 @@ Apart u t = (o : ℕ) (a b : Access) → at t o a ≡ Immediate → Bars a b →
 pub apart_within : (u v t : Task) → Within u v → Apart u t → Apart v t
 apart_within u v t w p o a b i x = w o b (p o a b i x)
 
-not_both : (l : Level) → l ≡ Immediate → l ≡ Absent → ⊥
-not_both l p q = let z : ◌≡◌ {A = ℕ} 0 1 = cc in omega arith
-
 -- two tasks that are apart, with accesses that bar each other, use different objects
 differ : (u t : Task) (a b : Access) (i j : ℕ) → Apart u t → at t j a ≡ Immediate → at u i b ≡ Immediate → Bars a b → i ≢ j
-differ u t a b i j p h g x e = not_both (at u i b) g (rw e (p j a b h x))
+differ u t a b i j p h g x e = let q : at u i b ≡ Absent = rw e (p j a b h x) in cc
 
 -- Two joins, in either order.
 

@@ -1,6 +1,6 @@
 -- What the changes of a bench keep: its run number, whether it is closed, and the count of steps but for one.
-use Rattle.std.proofs.Common.{◌≡◌, ℕ, refl}
-use mathlib.Core.Option.{Option, none, some, Option-elim}
+use Rattle.std.proofs.Common.{◌≡◌, ℕ, Some, None, Option, refl}
+use Rattle.std.specs.Option.{option_map_or}
 use Rattle.kinds.specs.Kinds.{Kind}
 use Rattle.working.specs.Requests.{Reply, faulted, stepped}
 use Rattle.runs.specs.Lines.{Status, waiting, out, Member, find}
@@ -9,12 +9,12 @@ use Rattle.runs.specs.Steps.{marked, after_reply, replied, step, put, advanced, 
 use Rattle.runs.specs.Events.{Event, took, performed, handed_back, effect}
 
 put_keeps : {X : Type 0} (field : Bench → X) (n : ℕ) (u : Status) (b : Bench) → ((s : Member) → field (marked b s u) ≡ field b) → field (put n u b) ≡ field b
-unfolding put Option-elim
+unfolding put
 put_keeps field n u b h = go (find n b.line)
   where
-    go : (o : Option Member) → field (Option-elim o b (λ s. marked b s u)) ≡ field b
-    go none = refl
-    go (some s) = h s
+    go : (o : Option Member) → field (option_map_or (λ s. marked b s u) o b) ≡ field b
+    go None = refl
+    go (Some s) = h s
 
 pub put_run : (n : ℕ) (u : Status) (b : Bench) → (put n u b).run ≡ b.run
 unfolding marked bench
@@ -29,12 +29,12 @@ unfolding marked bench
 put_steps n u b = put_keeps (λ b. b.steps) n u b (λ s. refl)
 
 advanced_keeps : {X : Type 0} (field : Bench → X) (k : Kind) (n : ℕ) (b : Bench) → ((s : Member) (p : Reply) → field (after_reply k b s p) ≡ field b) → field (advanced k n b) ≡ field b
-unfolding advanced Option-elim step
+unfolding advanced step
 advanced_keeps field k n b h = go (find n b.line)
   where
-    go : (o : Option Member) → field (Option-elim o b (step k b)) ≡ field b
-    go none = refl
-    go (some s) = h s (replied k b s)
+    go : (o : Option Member) → field (option_map_or (step k b) o b) ≡ field b
+    go None = refl
+    go (Some s) = h s (replied k b s)
 
 advanced_run : (k : Kind) (n : ℕ) (b : Bench) → (advanced k n b).run ≡ b.run
 unfolding after_reply marked bench

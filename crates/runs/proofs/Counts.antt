@@ -1,6 +1,6 @@
 -- The steps of a bench are the performs that answered done.
-use Rattle.std.proofs.Common.{◌≡◌, ℕ, zero, suc, ◌+◌, Bool, true, false, cond, List, [], ◌∷◌, arith}
-use mathlib.Core.Option.{Option, none, some, Option-elim}
+use Rattle.std.proofs.Common.{◌≡◌, ℕ, zero, suc, ◌+◌, Bool, true, false, cond, List, [], ◌∷◌, Some, None, Option, arith}
+use Rattle.std.specs.Option.{option_map_or}
 use Rattle.kinds.specs.Kinds.{Kind}
 use Rattle.cards.specs.Code.{Card}
 use Rattle.working.specs.Requests.{Reply, faulted, stepped}
@@ -18,16 +18,16 @@ use Rattle.runs.specs.Done.{is_done, turned_done, worked_off_done, granted_done,
 use Rattle.runs.proofs.Changes.{put_steps}
 
 advanced_steps : (k : Kind) (n : ℕ) (b : Bench) → (advanced k n b).steps ≡ b.steps + is_done (step_answer k n b)
-unfolding advanced step_answer Option-elim step after_reply bench marked reply_answer is_done
+unfolding advanced step_answer step after_reply bench marked reply_answer is_done
 advanced_steps k n b = go (find n b.line)
   where
     one : (s : Member) (p : Reply) → (after_reply k b s p).steps ≡ b.steps + is_done (reply_answer p)
     one s (faulted f l) = omega arith
     one s (stepped x) = omega arith
 
-    go : (o : Option Member) → (Option-elim o b (step k b)).steps ≡ b.steps + is_done (Option-elim o (refused Foreign) (λ s. reply_answer (replied k b s)))
-    go none = omega arith
-    go (some s) = one s (replied k b s)
+    go : (o : Option Member) → (option_map_or (step k b) o b).steps ≡ b.steps + is_done (option_map_or (λ s. reply_answer (replied k b s)) o (refused Foreign))
+    go None = omega arith
+    go (Some s) = one s (replied k b s)
 
 turned_steps : (k : Kind) (f : List ℕ → ℕ) (b : Bench) → (turned k f b).steps ≡ b.steps + turned_done k f b
 unfolding turned turned_done effect
@@ -57,8 +57,8 @@ unfolding answer answered unless_refused
 answer_steps k x b = go (refusal k x b)
   where
     go : (o : Option Refusal) → (answered o b (granted k x b)).1.steps ≡ b.steps + unless_refused o (granted_done k x b)
-    go none = granted_steps k x b
-    go (some r) = omega arith
+    go None = granted_steps k x b
+    go (Some r) = omega arith
 
 calls_steps : (k : Kind) (xs : List Call) (b : Bench) → (after_calls k xs b).steps ≡ b.steps + calls_done k xs b
 unfolding after_calls calls_done

@@ -9,7 +9,7 @@ use Rattle.working.specs.Tasks.{Task}
 use Rattle.working.specs.Requests.{Next, request, stored, faulted, stepped, reply}
 use Rattle.working.specs.Serial.{Outcome, words, fault, Result, result, segment, made_by, Serial, done, stop, more}
 use Rattle.working.proofs.Fine.{Within, fine_reply}
-use Rattle.runs.proofs.Requests.{fault_reply, allowed, no_step}
+use Rattle.runs.proofs.Requests.{fault_reply, allowed}
 use Rattle.runs.proofs.Pairs.{all_right}
 use Rattle.runs.proofs.Words.{Worded, WholeWords, keeps, words_step}
 use Rattle.runs.proofs.Apart.{Apart, apart_within, commute_stored, later_reply, first_reply}
@@ -61,36 +61,24 @@ follows_trans k m line n c r q e h f = record { result = f.result; serial = f.se
 -- The cases of the invariant.
 
 never_empty : (before : List Task) (t : Task) (behind : List Task) → [] ≡ before ++ (t ∷ behind) → ⊥
-never_empty [] t behind e = let z : ◌≡◌ {A = ℕ} 0 1 = cc in omega arith
-never_empty (u ∷ us) t behind e = let z : ◌≡◌ {A = ℕ} 0 1 = cc in omega arith
-
-head_is : (u v : Task) (us vs : List Task) → u ∷ us ≡ v ∷ vs → u ≡ v
-head_is u v us vs e = cc
-
-tail_is : (u v : Task) (us vs : List Task) → u ∷ us ≡ v ∷ vs → us ≡ vs
-tail_is u v us vs e = cc
-
-next_is : (y x : Next) → stepped y ≡ stepped x → y ≡ x
-next_is y x e = cc
-
-stop_first : (k : Kind) (m : List ℕ) (u t : Task) (ts behind : List Task) (f : FaultKind) (l : ℕ) (x : Next) → reply m (request k u) ≡ faulted f l → u ∷ ts ≡ t ∷ behind → reply m (request k t) ≡ stepped x → ⊥
-stop_first k m u t ts behind f l x d e q = no_step (reply m (request k t)) f l x (ap (λ v. reply m (request k v)) (sym (head_is u t ts behind e)) ∙ d) q
+never_empty [] t behind e = cc
+never_empty (u ∷ us) t behind e = cc
 
 stop_later : (k : Kind) (m m' : List ℕ) (u v : Task) (ts rest rest' : List Task) (f : FaultKind) (l n c c' : ℕ) → reply m (request k u) ≡ faulted f l → u ∷ ts ≡ v ∷ rest → Follows k m' (v ∷ rest') (suc n) c' (result (fault f l u.place) n c)
 stop_later k m m' u v ts rest rest' f l n c c' d e =
-    subst (λ (w : Task). Follows k m' (w ∷ rest') (suc n) c' (result (fault f l u.place) n c)) (head_is u v ts rest e) (stopped k m m' u f l rest' n c (suc n) c' d (omega arith))
+    subst (λ (w : Task). Follows k m' (w ∷ rest') (suc n) c' (result (fault f l u.place) n c)) (cc) (stopped k m m' u f l rest' n c (suc n) c' d (omega arith))
 
 more_first : (k : Kind) (m : List ℕ) (u t : Task) (ts behind : List Task) (y x : Next) (n c : ℕ) (r : Result) → reply m (request k u) ≡ stepped y → Serial k (stored k m (request k u)) (segment y ++ ts) (suc n) (c + made_by y) r → u ∷ ts ≡ t ∷ behind → reply m (request k t) ≡ stepped x → Follows k (stored k m (request k t)) (segment x ++ behind) (suc n) (c + made_by x) r
 more_first k m u t ts behind y x n c r d s e q =
-    let p : u ≡ t = head_is u t ts behind e in
-    let w : ts ≡ behind = tail_is u t ts behind e in
-    let z : y ≡ x = next_is y x (sym d ∙ ap (λ v. reply m (request k v)) p ∙ q) in
+    let p : u ≡ t = cc in
+    let w : ts ≡ behind = cc in
+    let z : y ≡ x = cc in
     follows_refl k _ _ _ _ r (serial_along k _ _ _ _ _ _ _ _ (ap (λ v. stored k m (request k v)) p) (ap (λ v. segment v ++ ts) z ∙ ap (λ v. segment x ++ v) w) (ap (λ v. c + made_by v) z) s)
 
 more_later : (k : Kind) → Lawful k → (m : List ℕ) (u v t : Task) (ts us behind : List Task) (y x : Next) (n c : ℕ) (r : Result) → reply m (request k u) ≡ stepped y → u ∷ ts ≡ v ∷ (us ++ (t ∷ behind)) → AllByRecursion (λ w. Apart w t) (v ∷ us) → WholeWords m (u ∷ ts) → reply m (request k t) ≡ stepped x → ((before : List Task) → segment y ++ ts ≡ before ++ (t ∷ behind) → AllByRecursion (λ w. Apart w t) before → WholeWords (stored k m (request k u)) (segment y ++ ts) → reply (stored k m (request k u)) (request k t) ≡ stepped x → Follows k (stored k (stored k m (request k u)) (request k t)) (before ++ (segment x ++ behind)) (suc (suc n)) (c + made_by y + made_by x) r) → Follows k (stored k m (request k t)) (v ∷ (us ++ (segment x ++ behind))) (suc n) (c + made_by x) r
 more_later k law m u v t ts us behind y x n c r d e h ww q ih =
-    let p : u ≡ v = head_is u v ts _ e in
-    let w : ts ≡ us ++ (t ∷ behind) = tail_is u v ts _ e in
+    let p : u ≡ v = cc in
+    let w : ts ≡ us ++ (t ∷ behind) = cc in
     let a : Apart u t = subst (λ (z : Task). Apart z t) (sym p) h.0 in
     let apart : AllByRecursion (λ v. Apart v t) (segment y ++ us) = All-append _ (segment y) us (All-weaker (Within u) _ (λ v g. apart_within u v t g a) (segment y) (fine_reply k m u y d).within) h.1 in
     let again : reply (stored k m (request k u)) (request k t) ≡ stepped x = later_reply k u t (request k u) (request k t) m a (allowed k u) (allowed k t) ∙ q in
@@ -101,7 +89,7 @@ more_later k law m u v t ts us behind y x n c r d e h ww q ih =
 -- a step of a task that is apart from all before it does not change what serial working comes to
 pub invariant : (k : Kind) → Lawful k → {m : List ℕ} {line : List Task} {n c : ℕ} {r : Result} → Serial k m line n c r → (before : List Task) (t : Task) (behind : List Task) (x : Next) → line ≡ before ++ (t ∷ behind) → AllByRecursion (λ u. Apart u t) before → WholeWords m line → reply m (request k t) ≡ stepped x → Follows k (stored k m (request k t)) (before ++ (segment x ++ behind)) (suc n) (c + made_by x) r
 invariant k law done before t behind x e h ww q = absurd (never_empty before t behind e)
-invariant k law (stop {m = m} {t = u} {ts = ts} {f = f} {l = l} d) [] t behind x e h ww q = absurd (stop_first k m u t ts behind f l x d e q)
+invariant k law (stop {m = m} {t = u} {ts = ts} {f = f} {l = l} d) [] t behind x e h ww q = cc
 invariant k law (stop {m = m} {t = u} {ts = ts} {n = n} {c = c} {f = f} {l = l} d) (v ∷ us) t behind x e h ww q = stop_later k m _ u v ts _ _ f l n c _ d e
 invariant k law (more {m = m} {t = u} {ts = ts} {n = n} {c = c} {x = y} {r = r} d s) [] t behind x e h ww q = more_first k m u t ts behind y x n c r d s e q
 invariant k law (more {m = m} {t = u} {ts = ts} {n = n} {c = c} {x = y} {r = r} d s) (v ∷ us) t behind x e h ww q =

@@ -1,7 +1,7 @@
 -- When an event is granted, and what it then does.
-use Rattle.std.proofs.Common.{◌≡◌, ℕ, Bool, true, false, cond, not, ◌&&◌, List, [], ◌∷◌, ◌++◌, refl, ap, ◌∙◌, arith}
-use mathlib.Core.Option.{Option, none, some, Option-elim}
-use Rattle.std.proofs.lemmas.Bool.{not-true, not_from_false, and_parts, and_from, cond-true}
+use Rattle.std.proofs.Common.{◌≡◌, ℕ, Bool, true, false, cond, not, ◌&&◌, List, [], ◌∷◌, ◌++◌, Some, None, Option, option_and_then, refl, ap, ◌∙◌, arith}
+use Rattle.std.specs.Option.{option_map_or}
+use Rattle.std.proofs.lemmas.Bool.{not-true, and_parts}
 use Rattle.kinds.specs.Kinds.{Kind}
 use Rattle.cards.specs.Code.{Card}
 use Rattle.runs.specs.Lines.{Status, Member, find}
@@ -13,25 +13,23 @@ use Rattle.runs.specs.Promise.{Reached}
 -- A number that is found.
 
 -- a test holds of task n: then there is one
-pub test_found : (n : ℕ) (line : List Member) (p : Member → Bool) → Option-elim (find n line) false p ≡ true → (s : Member) × (find n line ≡ some s) × (p s ≡ true)
-unfolding Option-elim
+pub test_found : (n : ℕ) (line : List Member) (p : Member → Bool) → option_map_or p (find n line) false ≡ true → (s : Member) × (find n line ≡ Some s) × (p s ≡ true)
 test_found n line p e = go (find n line) refl e
   where
-    go : (o : Option Member) → find n line ≡ o → Option-elim o false p ≡ true → (s : Member) × (find n line ≡ some s) × (p s ≡ true)
-    go none q e = let z : ◌≡◌ {A = ℕ} 0 1 = cc in absurd (omega arith)
-    go (some s) q e = (s, q, e)
+    go : (o : Option Member) → find n line ≡ o → option_map_or p o false ≡ true → (s : Member) × (find n line ≡ Some s) × (p s ≡ true)
+    go None q e = cc
+    go (Some s) q e = (s, q, e)
 
-pub found_test : (n : ℕ) (line : List Member) (p : Member → Bool) (s : Member) → find n line ≡ some s → p s ≡ true → Option-elim (find n line) false p ≡ true
-unfolding Option-elim
-found_test n line p s e h = ap (λ (o : Option Member). Option-elim o false p) e ∙ h
+pub found_test : (n : ℕ) (line : List Member) (p : Member → Bool) (s : Member) → find n line ≡ Some s → p s ≡ true → option_map_or p (find n line) false ≡ true
+found_test n line p s e h = rw e h
 
-pub put_found : (n : ℕ) (u : Status) (b : Bench) (s : Member) → find n b.line ≡ some s → put n u b ≡ marked b s u
-unfolding put Option-elim
-put_found n u b s e = ap (λ (o : Option Member). Option-elim o b (λ s. marked b s u)) e
+pub put_found : (n : ℕ) (u : Status) (b : Bench) (s : Member) → find n b.line ≡ Some s → put n u b ≡ marked b s u
+unfolding put
+put_found n u b s e = rw e
 
-pub advanced_found : (k : Kind) (n : ℕ) (b : Bench) (s : Member) → find n b.line ≡ some s → advanced k n b ≡ step k b s
-unfolding advanced Option-elim
-advanced_found k n b s e = ap (λ (o : Option Member). Option-elim o b (step k b)) e
+pub advanced_found : (k : Kind) (n : ℕ) (b : Bench) (s : Member) → find n b.line ≡ Some s → advanced k n b ≡ step k b s
+unfolding advanced
+advanced_found k n b s e = rw e
 
 -- One event.
 
@@ -40,37 +38,33 @@ pub record Applied (k : Kind) (e : Event) (b b₁ : Bench) : Type 0 where
   pub allowed : grants e b ≡ true
   pub makes : effect k e b ≡ b₁
 
-pub apply_some : (k : Kind) (e : Event) (b b₁ : Bench) → apply k e b ≡ some b₁ → Applied k e b b₁
+pub apply_some : (k : Kind) (e : Event) (b b₁ : Bench) → apply k e b ≡ Some b₁ → Applied k e b b₁
 unfolding apply
 apply_some k e b b₁ q = go (not b.closed && grants e b) refl q
   where
-    go : (x : Bool) → (not b.closed && grants e b) ≡ x → cond x (some (effect k e b)) none ≡ some b₁ → Applied k e b b₁
+    go : (x : Bool) → (not b.closed && grants e b) ≡ x → cond x (Some (effect k e b)) None ≡ Some b₁ → Applied k e b b₁
     go true p g = let w = and_parts (not b.closed) (grants e b) p in record { going_on = not-true _ w.0; allowed = w.1; makes = cc }
-    go false p g = let z : ◌≡◌ {A = ℕ} 0 1 = cc in absurd (omega arith)
+    go false p g = cc
 
-pub apply_granted : (k : Kind) (e : Event) (b : Bench) → b.closed ≡ false → grants e b ≡ true → apply k e b ≡ some (effect k e b)
+pub apply_granted : (k : Kind) (e : Event) (b : Bench) → b.closed ≡ false → grants e b ≡ true → apply k e b ≡ Some (effect k e b)
 unfolding apply
-apply_granted k e b z g = cond-true (not b.closed && grants e b) _ _ (and_from _ _ (not_from_false _ z) g)
+apply_granted k e b z g = grind arith
 
 -- More events.
 
-pub replay_first : (k : Kind) (e : Event) (es : List Event) (b b₁ : Bench) → replay k (e ∷ es) b ≡ some b₁ → (b₂ : Bench) × (apply k e b ≡ some b₂) × (replay k es b₂ ≡ some b₁)
-unfolding replay Option-elim
+pub replay_first : (k : Kind) (e : Event) (es : List Event) (b b₁ : Bench) → replay k (e ∷ es) b ≡ Some b₁ → (b₂ : Bench) × (apply k e b ≡ Some b₂) × (replay k es b₂ ≡ Some b₁)
+unfolding replay
 replay_first k e es b b₁ q = go (apply k e b) refl q
   where
-    go : (o : Option Bench) → apply k e b ≡ o → Option-elim o none (replay k es) ≡ some b₁ → (b₂ : Bench) × (apply k e b ≡ some b₂) × (replay k es b₂ ≡ some b₁)
-    go none p g = let z : ◌≡◌ {A = ℕ} 0 1 = cc in absurd (omega arith)
-    go (some b₂) p g = (b₂, p, g)
+    go : (o : Option Bench) → apply k e b ≡ o → option_and_then (replay k es) o ≡ Some b₁ → (b₂ : Bench) × (apply k e b ≡ Some b₂) × (replay k es b₂ ≡ Some b₁)
+    go None p g = cc
+    go (Some b₂) p g = (b₂, p, g)
 
-replay_next : (k : Kind) (e : Event) (es : List Event) (b b₁ : Bench) → apply k e b ≡ some b₁ → replay k (e ∷ es) b ≡ replay k es b₁
-unfolding replay Option-elim
-replay_next k e es b b₁ p = ap (λ (o : Option Bench). Option-elim o none (replay k es)) p
-
-replay_none : (k : Kind) (b : Bench) → replay k [] b ≡ some b
+replay_next : (k : Kind) (e : Event) (es : List Event) (b b₁ : Bench) → apply k e b ≡ Some b₁ → replay k (e ∷ es) b ≡ replay k es b₁
 unfolding replay
-replay_none k b = refl
+replay_next k e es b b₁ p = rw p
 
-replay_append : (k : Kind) (es fs : List Event) (b b₁ : Bench) → replay k es b ≡ some b₁ → replay k (es ++ fs) b ≡ replay k fs b₁
+replay_append : (k : Kind) (es fs : List Event) (b b₁ : Bench) → replay k es b ≡ Some b₁ → replay k (es ++ fs) b ≡ replay k fs b₁
 unfolding replay
 replay_append k [] fs b b₁ e = let p : b ≡ b₁ = cc in ap (replay k fs) p
 replay_append k (x ∷ es) fs b b₁ e =
@@ -78,8 +72,10 @@ replay_append k (x ∷ es) fs b b₁ e =
     replay_next k x (es ++ fs) b g.0 g.1 ∙ replay_append k es fs g.0 b₁ g.2
 
 pub reached_opened : (k : Kind) (c : Card) (n : ℕ) → Reached k c n (opened k c n)
-reached_opened k c n = ([], replay_none k (opened k c n))
+unfolding replay
+reached_opened k c n = ([], refl)
 
 -- one more granted event
-pub reached_event : (k : Kind) (c : Card) (n : ℕ) (e : Event) (b b₁ : Bench) → Reached k c n b → apply k e b ≡ some b₁ → Reached k c n b₁
-reached_event k c n e b b₁ h p = (h.0 ++ (e ∷ []), replay_append k h.0 (e ∷ []) (opened k c n) b h.1 ∙ replay_next k e [] b b₁ p ∙ replay_none k b₁)
+pub reached_event : (k : Kind) (c : Card) (n : ℕ) (e : Event) (b b₁ : Bench) → Reached k c n b → apply k e b ≡ Some b₁ → Reached k c n b₁
+unfolding replay
+reached_event k c n e b b₁ h p = (h.0 ++ (e ∷ []), replay_append k h.0 (e ∷ []) (opened k c n) b h.1 ∙ replay_next k e [] b b₁ p)

@@ -2,6 +2,7 @@
 use Rattle.std.proofs.Common.{◌≡◌, ℕ, suc, ◌+◌, ◌<◌, ◌≤◌, ◌⊎◌, List, [], ◌∷◌, ◌++◌, sym, refl, ap, ◌∙◌, subst, inl, inr, ⊎_elim, arith}
 use Rattle.std.specs.List.{AllByRecursion}
 use Rattle.std.proofs.ByRecursion.{All-weaker, All-map}
+use Rattle.std.proofs.lemmas.List.{map-append}
 use Rattle.kinds.specs.Kinds.{Kind, Lawful}
 use Rattle.cards.specs.Code.{Card}
 use Rattle.cards.specs.Bounds.{card_steps, card_tasks}
@@ -16,7 +17,7 @@ use Rattle.runs.proofs.Pairs.{all_left, all_right, all_both, all_update, all_at,
 use Rattle.runs.proofs.Words.{WholeWords, words_step}
 use Rattle.runs.proofs.Apart.{Apart, apart_within}
 use Rattle.runs.proofs.Diamond.{Follows, follows_trans, invariant}
-use Rattle.runs.proofs.Lines.{tasks, tasks_append, same_tasks}
+use Rattle.runs.proofs.Lines.{tasks, same_tasks}
 
 -- a stuck task's request is the fault, whatever the words
 abbrev pub Stands : Kind → Task → Status → Type 0
@@ -90,7 +91,7 @@ successors_pairs : (n c : ℕ) (x : Next) → n < c → Pairs Beside (members n 
 unfolding members member
 successors_pairs n c leaves h = tt
 successors_pairs n c (goes u) h = (tt, tt)
-successors_pairs n c (makes v u) h = ((record { apart = λ e. let z : ◌≡◌ {A = ℕ} 0 1 = cc in absurd (omega arith); differ = λ e. omega arith }, tt), (tt, tt))
+successors_pairs n c (makes v u) h = ((record { apart = λ e. cc; differ = λ e. omega arith }, tt), (tt, tt))
 
 successors_numbered : (n c : ℕ) (x : Next) → n < c → AllByRecursion (λ s. s.number < c + made_by x) (members n c x)
 unfolding members member made_by
@@ -110,22 +111,11 @@ successors_tasks n c leaves = refl
 successors_tasks n c (goes u) = refl
 successors_tasks n c (makes v u) = refl
 
-never_out : (w : Member) → w.status ≡ waiting → w.status ≡ out → ⊥
-never_out w p q = let z : ◌≡◌ {A = ℕ} 0 1 = cc in omega arith
+successor_behind : (s : Member) (c : ℕ) (u w : Member) → Beside u s → u.number < c → Successor s.task s.number c w → Beside u w
+successor_behind s c u w b l h = record { apart = λ e. cc; differ = λ e. ⊎_elim (λ g. b.differ (e ∙ g)) (λ g. omega arith) h.numbered }
 
-successor_behind : (s : Member) (c : ℕ) (u : Member) → Beside u s → u.number < c → (ws : List Member) → AllByRecursion (Successor s.task s.number c) ws → AllByRecursion (Beside u) ws
-successor_behind s c u b l [] h = tt
-successor_behind s c u b l (w ∷ ws) h = (
-  record { apart = λ e. absurd (never_out w h.0.waits e); differ = λ e. ⊎_elim (λ g. b.differ (e ∙ g)) (λ g. omega arith) h.0.numbered },
-  successor_behind s c u b l ws h.1,
-)
-
-successor_before : (s : Member) (c : ℕ) (v : Member) → Beside s v → v.number < c → (ws : List Member) → AllByRecursion (Successor s.task s.number c) ws → AllByRecursion (λ w. Beside w v) ws
-successor_before s c v b l [] h = tt
-successor_before s c v b l (w ∷ ws) h = (
-  record { apart = λ e. apart_within s.task w.task v.task h.0.within (b.apart e); differ = λ e. ⊎_elim (λ g. b.differ (sym g ∙ e)) (λ g. omega arith) h.0.numbered },
-  successor_before s c v b l ws h.1,
-)
+successor_before : (s : Member) (c : ℕ) (v w : Member) → Beside s v → v.number < c → Successor s.task s.number c w → Beside w v
+successor_before s c v w b l h = record { apart = λ e. apart_within s.task w.task v.task h.within (b.apart e); differ = λ e. ⊎_elim (λ g. b.differ (sym g ∙ e)) (λ g. omega arith) h.numbered }
 
 orderly_step : (k : Kind) (before : List Member) (s : Member) (behind : List Member) (made : ℕ) (x : Next) → Orderly k (before ++ (s ∷ behind)) made → AllByRecursion (Within s.task) (segment x) → Orderly k (before ++ (members s.number made x ++ behind)) (made + made_by x)
 orderly_step k before s behind made x h w =
@@ -136,19 +126,19 @@ orderly_step k before s behind made x h w =
       stands = all_update _ before s behind (members s.number made x) h.stands (successors_stand k s.number made x);
       pairs =
           pairs_update Beside before s behind (members s.number made x) h.pairs
-          (all_both _ _ _ (λ u b l. successor_behind s made u b l _ hs) before (pairs_before Beside before s behind h.pairs) (all_left _ before (s ∷ behind) h.numbered))
+          (all_both _ _ _ (λ u b l. All-weaker _ _ (λ w. successor_behind s made u w b l) _ hs) before (pairs_before Beside before s behind h.pairs) (all_left _ before (s ∷ behind) h.numbered))
           (successors_pairs s.number made x n)
-          (all_both _ _ _ (λ v b l. successor_before s made v b l _ hs) behind (pairs_behind Beside before s behind h.pairs) (all_right _ before (s ∷ behind) h.numbered).1);
+          (all_both _ _ _ (λ v b l. All-weaker _ _ (λ w. successor_before s made v w b l) _ hs) behind (pairs_behind Beside before s behind h.pairs) (all_right _ before (s ∷ behind) h.numbered).1);
     }
 
 stepped_tasks : (before : List Member) (n c : ℕ) (x : Next) (behind : List Member) → tasks (before ++ (members n c x ++ behind)) ≡ tasks before ++ (segment x ++ tasks behind)
-stepped_tasks before n c x behind = tasks_append before _ ∙ ap (λ (r : List Task). tasks before ++ r) (tasks_append (members n c x) behind ∙ ap (λ (r : List Task). r ++ tasks behind) (successors_tasks n c x))
+stepped_tasks before n c x behind = simp (map-append, successors_tasks)
 
 pub sound_step : (k : Kind) → Lawful k → (c : Card) (r : Result) (m : List ℕ) (before : List Member) (s : Member) (behind : List Member) (made steps : ℕ) (x : Next) → Sound k c r m (before ++ (s ∷ behind)) made steps → s.status ≡ out → reply m (request k s.task) ≡ stepped x → Sound k c r (stored k m (request k s.task)) (before ++ (members s.number made x ++ behind)) (made + made_by x) (suc steps)
 unfolding total_steps total_tasks
 sound_step k law c r m before s behind made steps x h o q =
     let e : tasks (before ++ (members s.number made x ++ behind)) ≡ tasks before ++ (segment x ++ tasks behind) = stepped_tasks before s.number made x behind in
-    let t : tasks (before ++ (s ∷ behind)) ≡ tasks before ++ (s.task ∷ tasks behind) = tasks_append before (s ∷ behind) in
+    let t : tasks (before ++ (s ∷ behind)) ≡ tasks before ++ (s.task ∷ tasks behind) = simp map-append in
     let f = fine_reply k m s.task x q in
     let apart = All-weaker _ _ (λ u b. b.apart o) before (pairs_before Beside before s behind h.orderly.pairs) in
     let next = invariant k law h.follows.serial (tasks before) s.task (tasks behind) x t (All-map (λ u. Apart u s.task) (λ s. s.task) before apart) h.worded q in

@@ -1,27 +1,23 @@
 -- Members of a line: where one stands, and the line with others in its place.
-use Rattle.std.proofs.Common.{◌≡◌, ℕ, Bool, true, false, cond, eqb, List, [], ◌∷◌, ◌++◌, map, sym, refl, ap, ◌∙◌, subst, arith}
-use mathlib.Core.Option.{some}
+use Rattle.std.proofs.Common.{◌≡◌, ℕ, Bool, true, false, cond, eqb, List, [], ◌∷◌, ◌++◌, map, Some, sym, refl, ap, subst, arith}
 use Rattle.std.specs.List.{AllByRecursion}
 use Rattle.std.proofs.lemmas.List.{map-append}
-use Rattle.std.proofs.lemmas.Bool.{eqb-true, ne_eqb, eq-eqb, or_parts, or_from, or_left, or_right}
+use Rattle.std.proofs.lemmas.Bool.{eqb-true, ne_eqb, eq-eqb}
 use Rattle.working.specs.Tasks.{Task}
 use Rattle.runs.specs.Lines.{Status, waiting, out, stuck, is_out, Member, member, with_status, find, replace, any_out}
 
 abbrev pub tasks : List Member → List Task
 tasks ss = map (λ s. s.task) ss
 
-pub tasks_append : (xs ys : List Member) → tasks (xs ++ ys) ≡ tasks xs ++ tasks ys
-tasks_append xs ys = map-append (λ s. s.task) xs ys
-
 pub same_tasks : (before : List Member) (s : Member) (u : Status) (behind : List Member) → tasks (before ++ (with_status s u ∷ behind)) ≡ tasks (before ++ (s ∷ behind))
 unfolding with_status member
-same_tasks before s u behind = tasks_append before (with_status s u ∷ behind) ∙ sym (tasks_append before (s ∷ behind))
+same_tasks before s u behind = simp map-append
 
 pub out_is : (s : Status) → is_out s ≡ true → s ≡ out
 unfolding is_out
-out_is waiting e = let z : ◌≡◌ {A = ℕ} 0 1 = cc in absurd (omega arith)
+out_is waiting e = cc
 out_is out e = refl
-out_is (stuck f l) e = let z : ◌≡◌ {A = ℕ} 0 1 = cc in absurd (omega arith)
+out_is (stuck f l) e = cc
 
 -- the member that is numbered n stands somewhere in the line
 pub record Found (n : ℕ) (line : List Member) (s : Member) : Type 0 where
@@ -45,16 +41,16 @@ found_later n u us s e f = record {
   replaced = λ new. rw e (ap (λ (r : List Member). u ∷ r) (f.replaced new));
 }
 
-pub found : (n : ℕ) (line : List Member) (s : Member) → find n line ≡ some s → Found n line s
+pub found : (n : ℕ) (line : List Member) (s : Member) → find n line ≡ Some s → Found n line s
 unfolding find
-found n [] s h = let z : ◌≡◌ {A = ℕ} 0 1 = cc in absurd (omega arith)
+found n [] s h = cc
 found n (u ∷ us) s h = go (eqb u.number n) refl h (found n us s)
   where
-    go : (x : Bool) → eqb u.number n ≡ x → cond x (some u) (find n us) ≡ some s → (find n us ≡ some s → Found n us s) → Found n (u ∷ us) s
+    go : (x : Bool) → eqb u.number n ≡ x → cond x (Some u) (find n us) ≡ Some s → (find n us ≡ Some s → Found n us s) → Found n (u ∷ us) s
     go true e g f = let p : u ≡ s = cc in subst (Found n (u ∷ us)) p (found_here n u us e)
     go false e g f = found_later n u us s e (f g)
 
-pub find_at : (before : List Member) (s : Member) (behind : List Member) → AllByRecursion (λ u. u.number ≡ s.number → ⊥) before → find s.number (before ++ (s ∷ behind)) ≡ some s
+pub find_at : (before : List Member) (s : Member) (behind : List Member) → AllByRecursion (λ u. u.number ≡ s.number → ⊥) before → find s.number (before ++ (s ∷ behind)) ≡ Some s
 unfolding find
 find_at [] s behind h = rw (eq-eqb s.number s.number refl)
 find_at (u ∷ us) s behind h = rw (ne_eqb u.number s.number h.0) (find_at us s behind h.1)
@@ -64,12 +60,12 @@ found_own n line s f = subst (λ (i : ℕ). Found i line s) (sym f.number) f
 
 -- another member in the place of one that is found is found there, and can itself be replaced
 
-pub find_replaced : (n : ℕ) (w : Member) → w.number ≡ n → (line : List Member) (s : Member) → find n line ≡ some s → find n (replace n (w ∷ []) line) ≡ some w
+pub find_replaced : (n : ℕ) (w : Member) → w.number ≡ n → (line : List Member) (s : Member) → find n line ≡ Some s → find n (replace n (w ∷ []) line) ≡ Some w
 unfolding find replace
-find_replaced n w e [] s h = let z : ◌≡◌ {A = ℕ} 0 1 = cc in absurd (omega arith)
+find_replaced n w e [] s h = cc
 find_replaced n w e (u ∷ us) s h = go (eqb u.number n) refl h (find_replaced n w e us s)
   where
-    go : (x : Bool) → eqb u.number n ≡ x → cond x (some u) (find n us) ≡ some s → (find n us ≡ some s → find n (replace n (w ∷ []) us) ≡ some w) → find n (cond x (w ∷ us) (u ∷ replace n (w ∷ []) us)) ≡ some w
+    go : (x : Bool) → eqb u.number n ≡ x → cond x (Some u) (find n us) ≡ Some s → (find n us ≡ Some s → find n (replace n (w ∷ []) us) ≡ Some w) → find n (cond x (w ∷ us) (u ∷ replace n (w ∷ []) us)) ≡ Some w
     go true q g f = rw (eq-eqb w.number n e)
     go false q g f = rw q (f g)
 
@@ -86,18 +82,15 @@ replace_replaced n w e new (u ∷ us) = go (eqb u.number n) refl (replace_replac
 
 pub out_somewhere : (before : List Member) (s : Member) (behind : List Member) → s.status ≡ out → any_out (before ++ (s ∷ behind)) ≡ true
 unfolding any_out is_out
-out_somewhere [] s behind e = or_left (is_out s.status) (any_out behind) (ap is_out e)
-out_somewhere (u ∷ us) s behind e = or_right (is_out u.status) (any_out (us ++ (s ∷ behind))) (out_somewhere us s behind e)
+out_somewhere [] s behind e = rw e
+out_somewhere (u ∷ us) s behind e = grind (arith, out_somewhere us s behind e)
 
 pub none_out_parts : (before : List Member) (s : Member) (behind : List Member) → any_out (before ++ (s ∷ behind)) ≡ false → (any_out before ≡ false) × (any_out behind ≡ false)
 unfolding any_out
-none_out_parts [] s behind e = (refl, (or_parts (is_out s.status) (any_out behind) e).1)
-none_out_parts (u ∷ us) s behind e =
-    let p = or_parts (is_out u.status) (any_out (us ++ (s ∷ behind))) e in
-    let q = none_out_parts us s behind p.1 in
-    (or_from _ _ p.0 q.0, q.1)
+none_out_parts [] s behind e = (refl, grind arith)
+none_out_parts (u ∷ us) s behind e = grind (arith, none_out_parts us s behind)
 
 pub none_out_append : (xs ys : List Member) → any_out xs ≡ false → any_out ys ≡ false → any_out (xs ++ ys) ≡ false
 unfolding any_out
 none_out_append [] ys e g = g
-none_out_append (x ∷ xs) ys e g = let p = or_parts (is_out x.status) (any_out xs) e in or_from _ _ p.0 (none_out_append xs ys p.1 g)
+none_out_append (x ∷ xs) ys e g = grind (arith, none_out_append xs ys)

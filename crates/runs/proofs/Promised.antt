@@ -1,7 +1,7 @@
 -- Every list of calls leads to a bench that keeps the whole promise.
-use Rattle.std.proofs.Common.{◌≡◌, ℕ, Bool, true, false, cond, eqb, List, [], ◌∷◌, ◌++◌, sym, refl, ap, ◌∙◌, subst, inl, inr, ⊎_elim, arith}
-use mathlib.Core.Option.{Option, none, some, Option-elim}
-use Rattle.std.proofs.lemmas.Bool.{both_ways, not-true, not_from_false, and_parts, and_from, cases_Bool, eq-eqb, cond-true}
+use Rattle.std.proofs.Common.{◌≡◌, ℕ, Bool, true, false, cond, List, [], ◌∷◌, ◌++◌, Some, None, Option, sym, refl, ap, ◌∙◌, subst, inl, inr, ⊎_elim, arith}
+use Rattle.std.specs.Option.{option_map_or}
+use Rattle.std.proofs.lemmas.Bool.{not-true, not_from_false, and_from, eq-eqb, cond-true}
 use Rattle.kinds.specs.Kinds.{Kind, Lawful}
 use Rattle.cards.specs.Code.{Card}
 use Rattle.working.specs.Serial.{Result, Serially}
@@ -30,19 +30,19 @@ use Rattle.runs.proofs.Refusals.{answer_granted, refuses}
 
 -- What the tests say.
 
-unless_none : (t : Bool) (r : Refusal) → unless t r ≡ none → t ≡ true
+unless_none : (t : Bool) (r : Refusal) → unless t r ≡ None → t ≡ true
 unfolding unless
 unless_none true r e = refl
-unless_none false r e = let z : ◌≡◌ {A = ℕ} 0 1 = cc in absurd (omega arith)
+unless_none false r e = cc
 
-none_unless : (t : Bool) (r : Refusal) → t ≡ true → unless t r ≡ none
+none_unless : (t : Bool) (r : Refusal) → t ≡ true → unless t r ≡ None
 unfolding unless
 none_unless t r e = rw e
 
 some_offered : (ns : List ℕ) → not_empty ns ≡ true → ns ≡ [] → ⊥
 unfolding not_empty
-some_offered [] e p = let z : ◌≡◌ {A = ℕ} 0 1 = cc in omega arith
-some_offered (n ∷ ns) e p = let z : ◌≡◌ {A = ℕ} 0 1 = cc in omega arith
+some_offered [] e p = cc
+some_offered (n ∷ ns) e p = cc
 
 offered_some : (ns : List ℕ) → (ns ≡ [] → ⊥) → not_empty ns ≡ true
 unfolding not_empty
@@ -51,21 +51,21 @@ offered_some (n ∷ ns) h = refl
 
 turn_fits : (n : ℕ) (r : ℕ) (b : Bench) → fits_turn (turn_of r n) b ≡ true → has_turn n b.line ≡ true
 unfolding fits_turn
-turn_fits n r b e = (and_parts (eqb r b.run) _ e).1
+turn_fits n r b e = grind arith
 
 -- P of what a call leaves
-answer_leaves : (P : Bench → Type 0) (k : Kind) (x : Call) (b : Bench) → P b → (fits x b ≡ true → own_refusal k x b ≡ none → P (granted k x b).1) → P (answer k x b).1
+answer_leaves : (P : Bench → Type 0) (k : Kind) (x : Call) (b : Bench) → P b → (fits x b ≡ true → own_refusal k x b ≡ None → P (granted k x b).1) → P (answer k x b).1
 unfolding answer answered refusal
 answer_leaves P k x b h f = go (fits x b) (own_refusal k x b) refl refl
   where
-    go : (y : Bool) (o : Option Refusal) → fits x b ≡ y → own_refusal k x b ≡ o → P (answered (cond y o (some Foreign)) b (granted k x b)).1
-    go true none p q = f p q
-    go true (some r) p q = h
+    go : (y : Bool) (o : Option Refusal) → fits x b ≡ y → own_refusal k x b ≡ o → P (answered (cond y o (Some Foreign)) b (granted k x b)).1
+    go true None p q = f p q
+    go true (Some r) p q = h
     go false o p q = h
 
 -- The run number stays.
 
-replay_run : (k : Kind) (es : List Event) (b b₁ : Bench) → replay k es b ≡ some b₁ → b₁.run ≡ b.run
+replay_run : (k : Kind) (es : List Event) (b b₁ : Bench) → replay k es b ≡ Some b₁ → b₁.run ≡ b.run
 unfolding replay
 replay_run k [] b b₁ e = let p : b ≡ b₁ = cc in ap (λ (v : Bench). v.run) (sym p)
 replay_run k (x ∷ es) b b₁ e =
@@ -95,7 +95,7 @@ module _ (k : Kind) (law : Lawful k) (c : Card) (ls : Literals c) (n : ℕ) (b :
   at_work z o = record { holds = holds; reached = reached; going_on = z; none_out = o }
 
   -- a granted call is made of granted events
-  granted_leads : (x : Call) → LawfulCall x → fits x b ≡ true → own_refusal k x b ≡ none → Reached k c n (granted k x b).1
+  granted_leads : (x : Call) → LawfulCall x → fits x b ≡ true → own_refusal k x b ≡ None → Reached k c n (granted k x b).1
   unfolding granted fits own_refusal grants
   granted_leads (Call.take g f) l p q = by_event (took (chosen f (offer b))) (going_open g b p) (taken k c r f b holds l (some_offered (offer b) (unless_none _ _ q))).allowed
   granted_leads (Call.perform t) l p q = let e = turn_fits t.task t.run b p in by_event (performed t.task) (turn_open k c r b t.task holds e) e
@@ -115,10 +115,10 @@ module _ (k : Kind) (law : Lawful k) (c : Card) (ls : Literals c) (n : ℕ) (b :
 
   fits_own : b.closed ≡ false → fits_going (going_state n) b ≡ true
   unfolding fits_going
-  fits_own z = and_from _ _ (eq-eqb n b.run (sym own_run)) (not_from_false _ z)
+  fits_own z = grind (arith, eq-eqb n b.run (sym own_run))
 
   open_yet : settled b ≡ false → b.closed ≡ false
-  open_yet s = ⊎_elim (λ x. absurd (both_ways (settled b) s (holds.shut x).settled_yet)) (λ x. x) (cases_Bool b.closed)
+  open_yet s = let x : b.closed ≡ true → settled b ≡ true = λ x. (holds.shut x).settled_yet in grind arith
 
   takes : settled b ≡ false → (offer b ≡ [] → ⊥) → (f : List ℕ → ℕ) → Chooses f → Takes k n f b
   unfolding fits own_refusal granted effect fits_turn
@@ -127,15 +127,15 @@ module _ (k : Kind) (law : Lawful k) (c : Card) (ls : Literals c) (n : ℕ) (b :
       record {
         place = place_below f (offer b) l o;
         answers = answer_granted k b (Call.take (going_state n) f) (fits_own (open_yet s)) (none_unless _ _ (offered_some (offer b) o)) ∙ ap {B = Answer × Bench} (λ (m : ℕ). (Answer.turn (turn_of m i), put i out b)) own_run;
-        then_out = and_from _ _ (eq-eqb n (put i out b).run (sym (put_run i out b ∙ own_run))) (taken_out f b (taken k c r f b holds l o));
+        then_out = grind (arith, eq-eqb n (put i out b).run (sym (put_run i out b ∙ own_run)), taken_out f b (taken k c r f b holds l o));
       }
 
   performs : (before : List Member) (s : Member) (behind : List Member) → b.line ≡ before ++ (s ∷ behind) → s.status ≡ out → Performs k n b s
-  unfolding fits own_refusal granted effect fits_turn has_turn is_out step_answer Option-elim
+  unfolding fits own_refusal granted effect fits_turn has_turn is_out step_answer
   performs before s behind e o =
       let here = find_split k b.line before s behind b.made holds.sound.orderly e in
-      let fit : fits_turn (turn_of n s.number) b ≡ true = and_from _ _ (eq-eqb n b.run (sym own_run)) (found_test s.number b.line (λ u. is_out u.status) s here (ap is_out o)) in
-      let answers : step_answer k s.number b ≡ reply_answer (replied k b s) = ap (λ (x : Option Member). Option-elim x (refused Foreign) (λ u. reply_answer (replied k b u))) here in
+      let fit : fits_turn (turn_of n s.number) b ≡ true = grind (arith, eq-eqb n b.run (sym own_run), found_test s.number b.line (λ u. is_out u.status) s here (ap is_out o)) in
+      let answers : step_answer k s.number b ≡ reply_answer (replied k b s) = ap (λ (x : Option Member). option_map_or (λ u. reply_answer (replied k b u)) x (refused Foreign)) here in
       record {
         still = still_ready k c r b holds before s behind e o;
         answers = answer_granted k b (Call.perform (turn_of n s.number)) fit refl ∙ (λ i. (answers i, advanced_found k s.number b s here i));

@@ -2,7 +2,7 @@
 use Rattle.std.proofs.Common.{◌≡◌, ℕ, zero, suc, ◌<◌, Bool, true, false, cond, not, ◌&&◌, ◌||◌, eqb, List, [], ◌∷◌, ◌++◌, length, sym, refl, ap, ◌∙◌, ⊎_elim, arith}
 use Rattle.std.specs.List.{AllByRecursion}
 use Rattle.std.proofs.lemmas.List.{get_or_past}
-use Rattle.std.proofs.lemmas.Bool.{both_ways, not-true, not_from_false, and_parts, and_from, or_parts, or_from, or_left, or_right, cases_Bool, cases_lt, cases_eq, ne_eqb, eq-eqb}
+use Rattle.std.proofs.lemmas.Bool.{and_parts, cases_Bool, cases_lt, cases_eq, ne_eqb, eq-eqb}
 use Rattle.cards.specs.declared.lines.Access.{Access}
 use Rattle.cards.specs.declared.lines.Access.TheVariants.{Rd, Wr, Cm}
 use Rattle.cards.specs.declared.lines.Level.{Level}
@@ -17,29 +17,26 @@ use Rattle.runs.proofs.Apart.{Bars, rd_wr, rd_cm, wr_rd, wr_wr, wr_cm, cm_rd, cm
 
 not_held : (l : Level) → held l ≡ false → l ≡ Absent
 not_held Absent e = refl
-not_held Deferred e = let z : ◌≡◌ {A = ℕ} 0 1 = cc in absurd (omega arith)
-not_held Immediate e = let z : ◌≡◌ {A = ℕ} 0 1 = cc in absurd (omega arith)
-
-absent_held : (l : Level) → l ≡ Absent → held l ≡ false
-absent_held l e = rw e
+not_held Deferred e = cc
+not_held Immediate e = cc
 
 -- One entry.
 
 declares_nothing : (d : Declared) → declares d ≡ false → (b : Access) → held (state d b) ≡ false
 unfolding declares
-declares_nothing d e Rd = (or_parts (held d.reads) (held d.writes || held d.commutes) e).0
-declares_nothing d e Wr = (or_parts (held d.writes) (held d.commutes) (or_parts (held d.reads) (held d.writes || held d.commutes) e).1).0
-declares_nothing d e Cm = (or_parts (held d.writes) (held d.commutes) (or_parts (held d.reads) (held d.writes || held d.commutes) e).1).1
+declares_nothing d e Rd = grind arith
+declares_nothing d e Wr = grind arith
+declares_nothing d e Cm = grind arith
 
 passes_bars : (d : Declared) {a b : Access} → passes a d ≡ true → Bars a b → held (state d b) ≡ false
 unfolding passes
-passes_bars d e rd_wr = (or_parts _ _ (not-true _ e)).0
-passes_bars d e rd_cm = (or_parts _ _ (not-true _ e)).1
-passes_bars d e wr_rd = let z : ◌≡◌ {A = ℕ} 0 1 = cc in absurd (omega arith)
-passes_bars d e wr_wr = let z : ◌≡◌ {A = ℕ} 0 1 = cc in absurd (omega arith)
-passes_bars d e wr_cm = let z : ◌≡◌ {A = ℕ} 0 1 = cc in absurd (omega arith)
-passes_bars d e cm_rd = (or_parts _ _ (not-true _ e)).0
-passes_bars d e cm_wr = (or_parts _ _ (not-true _ e)).1
+passes_bars d e rd_wr = grind arith
+passes_bars d e rd_cm = grind arith
+passes_bars d e wr_rd = cc
+passes_bars d e wr_wr = cc
+passes_bars d e wr_cm = cc
+passes_bars d e cm_rd = grind arith
+passes_bars d e cm_wr = grind arith
 
 -- an entry that passes where there is one
 abbrev Lets : Access → Declared → Type 0
@@ -50,16 +47,16 @@ lets_from d a h b x = ⊎_elim (λ e. not_held _ (passes_bars d (h e) x)) (λ e.
 
 lets_passes : (d : Declared) (a : Access) → Lets a d → declares d ≡ true → passes a d ≡ true
 unfolding passes declares
-lets_passes d Rd h e = not_from_false _ (or_from _ _ (absent_held _ (h Wr rd_wr)) (absent_held _ (h Cm rd_cm)))
-lets_passes d Wr h e = absurd (both_ways _ (or_from _ _ (absent_held _ (h Rd wr_rd)) (or_from _ _ (absent_held _ (h Wr wr_wr)) (absent_held _ (h Cm wr_cm)))) e)
-lets_passes d Cm h e = not_from_false _ (or_from _ _ (absent_held _ (h Rd cm_rd)) (absent_held _ (h Wr cm_wr)))
+lets_passes d Rd h e = rw (h Wr rd_wr, h Cm rd_cm)
+lets_passes d Wr h e = absurd (grind (arith, e, ap held (h Rd wr_rd), ap held (h Wr wr_wr), ap held (h Cm wr_cm)))
+lets_passes d Cm h e = rw (h Rd cm_rd, h Wr cm_wr)
 
 -- One more task at the front of the line.
 
 entry_clear : (x : Bool) (a : Access) (n : ℕ) (e : Entry) (q : List Entry) → (e.number ≡ n → ⊥) → clear a (earlier n (cond x (e ∷ q) q)) ≡ true → (x ≡ true → passes a e.declared ≡ true) × (clear a (earlier n q) ≡ true)
 unfolding clear earlier
-entry_clear true a n e q f h = let g = and_parts (passes a e.declared) (clear a (earlier n q)) (rw (ne_eqb e.number n f) at h) in ((λ y. g.0), g.1)
-entry_clear false a n e q f h = ((λ y. let z : ◌≡◌ {A = ℕ} 0 1 = cc in absurd (omega arith)), h)
+entry_clear true a n e q f h = let g = rw (ne_eqb e.number n f) at h in ((λ y. grind arith), grind arith)
+entry_clear false a n e q f h = ((λ y. cc), h)
 
 clear_entry : (x : Bool) (a : Access) (n : ℕ) (e : Entry) (q : List Entry) → (x ≡ true → passes a e.declared ≡ true) → clear a (earlier n q) ≡ true → clear a (earlier n (cond x (e ∷ q) q)) ≡ true
 unfolding clear earlier
@@ -67,13 +64,13 @@ clear_entry true a n e q p h = go (eqb e.number n)
   where
     go : (y : Bool) → clear a (cond y [] (e ∷ earlier n q)) ≡ true
     go true = refl
-    go false = and_from _ _ (p refl) h
+    go false = rw (p refl, h)
 clear_entry false a n e q p h = h
 
 clear_own : (x : Bool) (a : Access) (n : ℕ) (e : Entry) (q : List Entry) → x ≡ true → e.number ≡ n → clear a (earlier n (cond x (e ∷ q) q)) ≡ true
 unfolding clear earlier
 clear_own true a n e q h p = rw (eq-eqb e.number n p)
-clear_own false a n e q h p = let z : ◌≡◌ {A = ℕ} 0 1 = cc in absurd (omega arith)
+clear_own false a n e q h p = cc
 
 -- The tasks before a clear one are apart from it, and the other way round.
 
@@ -90,9 +87,9 @@ clear_apart s (u ∷ us) rest f h =
 
 declares_own : (d : Declared) (a : Access) → state d a ≡ Immediate → declares d ≡ true
 unfolding declares
-declares_own d Rd e = or_left (held d.reads) (held d.writes || held d.commutes) (ap held e)
-declares_own d Wr e = or_right (held d.reads) (held d.writes || held d.commutes) (or_left (held d.writes) (held d.commutes) (ap held e))
-declares_own d Cm e = or_right (held d.reads) (held d.writes || held d.commutes) (or_right (held d.writes) (held d.commutes) (ap held e))
+declares_own d Rd e = rw e
+declares_own d Wr e = grind (arith, ap held e)
+declares_own d Cm e = grind (arith, ap held e)
 
 pub apart_clear : (s : Member) (before behind : List Member) → AllByRecursion (λ u. Apart u.task s.task) before → Clear (before ++ (s ∷ behind)) s
 unfolding queue on
@@ -106,26 +103,20 @@ apart_clear s (u ∷ us) behind h o a i =
 each_below : (n : ℕ) (f : ℕ → Bool) → each n f ≡ true → (i : ℕ) → i < n → f i ≡ true
 unfolding each
 each_below zero f h i l = absurd (omega arith)
-each_below (suc n) f h i l =
-    let p = and_parts (f n) (each n f) h in
-    ⊎_elim (λ e. rw e p.0) (λ g. each_below n f p.1 i (omega arith)) (cases_eq i n)
+each_below (suc n) f h i l = ⊎_elim (λ e. rw e (grind arith)) (λ g. each_below n f (grind arith) i (omega arith)) (cases_eq i n)
 
 below_each : (n : ℕ) (f : ℕ → Bool) → ((i : ℕ) → f i ≡ true) → each n f ≡ true
 unfolding each
 below_each zero f h = refl
-below_each (suc n) f h = and_from _ _ (h n) (below_each n f h)
+below_each (suc n) f h = rw (h n) (below_each n f h)
 
 immediate_within : (t : Task) (o : ℕ) (a : Access) → at t o a ≡ Immediate → o < length t.declared
 immediate_within t o a e = ⊎_elim (λ l. l) (λ g. absurd (past a (ap (λ d. state d a) (sym (get_or_past t.declared o nothing g)) ∙ e))) (cases_lt o (length t.declared))
   where
     past : (a : Access) → state nothing a ≡ Immediate → ⊥
-    past Rd e = let z : ◌≡◌ {A = ℕ} 0 1 = cc in omega arith
-    past Wr e = let z : ◌≡◌ {A = ℕ} 0 1 = cc in omega arith
-    past Cm e = let z : ◌≡◌ {A = ℕ} 0 1 = cc in omega arith
-
-for_clear : (line : List Member) (s : Member) (o : ℕ) (a : Access) → clear_for line s o a ≡ true → at s.task o a ≡ Immediate → clear a (earlier s.number (queue o line)) ≡ true
-unfolding clear_for on
-for_clear line s o a h i = rw i at h
+    past Rd e = cc
+    past Wr e = cc
+    past Cm e = cc
 
 clear_for_true : (line : List Member) (s : Member) (o : ℕ) (a : Access) → (at s.task o a ≡ Immediate → clear a (earlier s.number (queue o line)) ≡ true) → clear_for line s o a ≡ true
 unfolding clear_for on
@@ -137,18 +128,18 @@ clear_for_true line s o a h = go (at s.task o a) h
     go Immediate g = g refl
 
 pub ready_clear : (line : List Member) (s : Member) → ready line s ≡ true → Clear line s
-unfolding ready
+unfolding ready clear_for on
 ready_clear line s h o a i =
     let p = each_below _ _ (and_parts _ _ h).1 o (immediate_within s.task o a i) in
-    for_clear line s o a (pick a p) i
+    rw i at (pick a p)
   where
     pick : (a : Access) → (clear_for line s o Rd && (clear_for line s o Wr && clear_for line s o Cm)) ≡ true → clear_for line s o a ≡ true
-    pick Rd p = (and_parts (clear_for line s o Rd) (clear_for line s o Wr && clear_for line s o Cm) p).0
-    pick Wr p = (and_parts (clear_for line s o Wr) (clear_for line s o Cm) (and_parts (clear_for line s o Rd) (clear_for line s o Wr && clear_for line s o Cm) p).1).0
-    pick Cm p = (and_parts (clear_for line s o Wr) (clear_for line s o Cm) (and_parts (clear_for line s o Rd) (clear_for line s o Wr && clear_for line s o Cm) p).1).1
+    pick Rd p = grind arith
+    pick Wr p = grind arith
+    pick Cm p = grind arith
 
 pub clear_ready : (line : List Member) (s : Member) → is_stuck s.status ≡ false → Clear line s → ready line s ≡ true
 unfolding ready
 clear_ready line s e h =
     let one : (o : ℕ) (a : Access) → clear_for line s o a ≡ true = λ o a. clear_for_true line s o a (h o a) in
-    and_from _ _ (not_from_false _ e) (below_each _ _ (λ o. and_from _ _ (one o Rd) (and_from _ _ (one o Wr) (one o Cm))))
+    rw e (below_each _ _ (λ o. rw (one o Rd, one o Wr) (one o Cm)))

@@ -1,9 +1,8 @@
 -- Every reached bench keeps the invariant, and once settled it agrees with serial working.
-use Rattle.std.proofs.Common.{◌≡◌, ℕ, true, false, not, ◌&&◌, ◌⊎◌, List, [], ◌∷◌, ◌++◌, sym, refl, ap, ◌∙◌, subst, inl, inr, ⊎_elim, arith}
-use mathlib.Core.Option.{some}
+use Rattle.std.proofs.Common.{◌≡◌, ℕ, true, false, not, ◌&&◌, ◌⊎◌, List, [], ◌∷◌, ◌++◌, Some, sym, refl, ap, ◌∙◌, subst, inl, inr, arith}
 use Rattle.std.specs.List.{AllByRecursion}
 use Rattle.std.proofs.ByRecursion.{All-weaker}
-use Rattle.std.proofs.lemmas.Bool.{both_ways, not-true, not_from_false, and_parts, and_from, cases_Bool, or_left, cond-true}
+use Rattle.std.proofs.lemmas.Bool.{both_ways, not_from_false, and_from, cond-true}
 use Rattle.kinds.specs.Kinds.{Kind, Lawful}
 use Rattle.cards.specs.Code.{Card}
 use Rattle.working.specs.declared.fault.FaultKind.{FaultKind}
@@ -21,7 +20,7 @@ use Rattle.runs.specs.BenchSheets.{settled_sheet, bench_sheet}
 use Rattle.runs.specs.Promise.{SerialSound, Counts, Agrees, Rests, Reached}
 use Rattle.working.proofs.Fine.{total_steps, total_tasks}
 use Rattle.working.proofs.Serials.{serially_ends, serially_agrees, serially_bounded}
-use Rattle.runs.proofs.Requests.{fault_reply, no_step}
+use Rattle.runs.proofs.Requests.{fault_reply}
 use Rattle.runs.proofs.Pairs.{pairs_before}
 use Rattle.runs.proofs.Words.{words_opened}
 use Rattle.runs.proofs.Apart.{Apart}
@@ -62,13 +61,13 @@ module _ (k : Kind) (c : Card) (r : Result) (b : Bench) (going_on : b.closed ≡
   holds_step law s f o = go (reply b.store (request k s.task)) refl
     where
       go : (p : Reply) → reply b.store (request k s.task) ≡ p → Holds k c r (after_reply k b s p)
-      go (faulted g l) e = holds_marked s (stuck g l) f (λ m. fault_reply (request k s.task) g l b.store m e) (λ q. let z : ◌≡◌ {A = ℕ} 0 1 = cc in absurd (omega arith))
+      go (faulted g l) e = holds_marked s (stuck g l) f (λ m. fault_reply (request k s.task) g l b.store m e) (λ q. cc)
       go (stepped x) e = record {
         sound = rw (f.replaced (members s.number b.made x)) (sound_step k law c r b.store f.before s f.behind b.made b.steps x (split_sound s f) o e);
         shut = not_shut;
       }
 
-  own : (n : ℕ) (s : Member) → find n b.line ≡ some s → Found s.number b.line s
+  own : (n : ℕ) (s : Member) → find n b.line ≡ Some s → Found s.number b.line s
   own n s e = found_own n b.line s (found n b.line s e)
 
   holds_effect : Lawful k → (e : Event) → grants e b ≡ true → Holds k c r (effect k e b)
@@ -76,21 +75,20 @@ module _ (k : Kind) (c : Card) (r : Result) (b : Bench) (going_on : b.closed ≡
   holds_effect law (took n) e =
       let g = test_found n b.line (on_offer b.line) e in
       let f = own n g.0 g.1 in
-      subst (Holds k c r) (sym (put_found n out b g.0 g.1)) (holds_marked g.0 out f tt (λ q. apart_before g.0 f (and_parts (ready b.line g.0) _ g.2).0))
+      subst (Holds k c r) (sym (put_found n out b g.0 g.1)) (holds_marked g.0 out f tt (λ q. apart_before g.0 f (grind arith)))
   holds_effect law (performed n) e =
       let g = test_found n b.line (λ s. is_out s.status) e in
       subst (Holds k c r) (sym (advanced_found k n b g.0 g.1)) (holds_step law g.0 (own n g.0 g.1) (out_is g.0.status g.2))
   holds_effect law (handed_back n) e =
       let g = test_found n b.line (λ s. is_out s.status) e in
-      subst (Holds k c r) (sym (put_found n waiting b g.0 g.1)) (holds_marked g.0 waiting (own n g.0 g.1) tt (λ q. let z : ◌≡◌ {A = ℕ} 0 1 = cc in absurd (omega arith)))
+      subst (Holds k c r) (sym (put_found n waiting b g.0 g.1)) (holds_marked g.0 waiting (own n g.0 g.1) tt (λ q. cc))
   holds_effect law Event.closed e =
-      let q = and_parts (settled b) (not (any_out b.line)) e in
-      record { sound = h.sound; shut = λ x. record { settled_yet = q.0; none_out = not-true _ q.1 } }
+      record { sound = h.sound; shut = λ x. record { settled_yet = grind arith; none_out = grind arith } }
 
-pub holds_apply : (k : Kind) → Lawful k → (c : Card) (r : Result) (b : Bench) (e : Event) (b₁ : Bench) → Holds k c r b → apply k e b ≡ some b₁ → Holds k c r b₁
+pub holds_apply : (k : Kind) → Lawful k → (c : Card) (r : Result) (b : Bench) (e : Event) (b₁ : Bench) → Holds k c r b → apply k e b ≡ Some b₁ → Holds k c r b₁
 holds_apply k law c r b e b₁ h q = let a = apply_some k e b b₁ q in subst (Holds k c r) a.makes (holds_effect k c r b a.going_on h law e a.allowed)
 
-holds_replay : (k : Kind) → Lawful k → (c : Card) (r : Result) (es : List Event) (b b₁ : Bench) → Holds k c r b → replay k es b ≡ some b₁ → Holds k c r b₁
+holds_replay : (k : Kind) → Lawful k → (c : Card) (r : Result) (es : List Event) (b b₁ : Bench) → Holds k c r b → replay k es b ≡ Some b₁ → Holds k c r b₁
 unfolding replay
 holds_replay k law c r [] b b₁ h q = let p : b ≡ b₁ = cc in subst (Holds k c r) p h
 holds_replay k law c r (e ∷ es) b b₁ h q =
@@ -107,7 +105,7 @@ holds_opened k law c ls n r s = record {
     steps_left = omega arith;
     tasks_left = omega arith;
   };
-  shut = λ e. let z : ◌≡◌ {A = ℕ} 0 1 = cc in absurd (omega arith);
+  shut = λ e. cc;
 }
 
 pub reached_holds : (k : Kind) → Lawful k → (c : Card) → Literals c → (n : ℕ) (r : Result) (b : Bench) → Serially k c r → Reached k c n b → Holds k c r b
@@ -118,16 +116,16 @@ reached_holds k law c ls n r b s e = holds_replay k law c r e.0 (opened k c n) b
 -- the first in line is offered, or its turn is out, or it is stuck
 pub first_offered : (line : List Member) → settled_line line ≡ false → (any_out line ≡ true) ⊎ (offered line line ≡ [] → ⊥)
 unfolding settled_line any_out offered on_offer is_out is_stuck
-first_offered [] e = let z : ◌≡◌ {A = ℕ} 0 1 = cc in absurd (omega arith)
+first_offered [] e = cc
 first_offered (s ∷ ss) e = go s.status refl
   where
     go : (u : Status) → s.status ≡ u → (any_out (s ∷ ss) ≡ true) ⊎ (offered (s ∷ ss) (s ∷ ss) ≡ [] → ⊥)
     go waiting p =
         let t = and_from (ready (s ∷ ss) s) (not (is_out s.status)) (clear_ready (s ∷ ss) s (ap is_stuck p) (apart_clear s [] ss tt)) (not_from_false _ (ap is_out p)) in
         let o = cond-true (ready (s ∷ ss) s && not (is_out s.status)) (s.number ∷ offered (s ∷ ss) ss) (offered (s ∷ ss) ss) t in
-        inr (λ q. let z : ◌≡◌ {A = ℕ} 0 1 = cc in omega arith)
-    go out p = inl (or_left (is_out s.status) (any_out ss) (ap is_out p))
-    go (stuck f l) p = absurd (both_ways (is_stuck s.status) e (ap is_stuck p))
+        inr (λ q. cc)
+    go out p = inl (rw p)
+    go (stuck f l) p = let q = ap is_stuck p in cc
 
 -- a task whose turn is out stays ready
 pub still_ready : (k : Kind) (c : Card) (r : Result) (b : Bench) → Holds k c r b → (before : List Member) (s : Member) (behind : List Member) → b.line ≡ before ++ (s ∷ behind) → s.status ≡ out → ready b.line s ≡ true
@@ -144,7 +142,8 @@ turn_open k c r b n h e =
     let g = test_found n b.line (λ s. is_out s.status) e in
     let f = found n b.line g.0 g.1 in
     let w : any_out b.line ≡ true = rw f.split (out_somewhere f.before g.0 f.behind (out_is g.0.status g.2)) in
-    ⊎_elim (λ x. absurd (both_ways (any_out b.line) (h.shut x).none_out w)) (λ x. x) (cases_Bool b.closed)
+    let x : b.closed ≡ true → any_out b.line ≡ false = λ x. (h.shut x).none_out in
+    grind arith
 
 -- What it comes to.
 
@@ -153,18 +152,18 @@ serial_empty k done = refl
 
 serial_stuck : (k : Kind) {m : List ℕ} {t : Task} {ts : List Task} {n c : ℕ} {r : Result} → Serial k m (t ∷ ts) n c r → (f : FaultKind) (l : ℕ) → reply m (request k t) ≡ faulted f l → r ≡ result (fault f l t.place) n c
 serial_stuck k (stop d) f l e = cc
-serial_stuck k (more d s) f l e = absurd (no_step _ _ _ _ e d)
+serial_stuck k (more d s) f l e = cc
 
 -- at a settled line serial working is at its end
-settled_ends : (k : Kind) (m : List ℕ) (line : List Member) (n c : ℕ) (q : Result) → settled_line line ≡ true → AllByRecursion (λ s. Stands k s.task s.status) line → Serial k m (tasks line) n c q → (line_outcome m line ≡ some q.outcome) × (q.steps ≡ n) × (q.made ≡ c)
+settled_ends : (k : Kind) (m : List ℕ) (line : List Member) (n c : ℕ) (q : Result) → settled_line line ≡ true → AllByRecursion (λ s. Stands k s.task s.status) line → Serial k m (tasks line) n c q → (line_outcome m line ≡ Some q.outcome) × (q.steps ≡ n) × (q.made ≡ c)
 unfolding settled_line line_outcome stuck_outcome is_stuck
-settled_ends k m [] n c q e h s = let p = serial_empty k s in (ap (λ (x : Result). some x.outcome) (sym p), ap (λ (x : Result). x.steps) p, ap (λ (x : Result). x.made) p)
+settled_ends k m [] n c q e h s = let p = serial_empty k s in (ap (λ (x : Result). Some x.outcome) (sym p), ap (λ (x : Result). x.steps) p, ap (λ (x : Result). x.made) p)
 settled_ends k m (u ∷ us) n c q e h s = go u.status e h.0
   where
-    go : (v : Status) → is_stuck v ≡ true → Stands k u.task v → (stuck_outcome u.task.place v ≡ some q.outcome) × (q.steps ≡ n) × (q.made ≡ c)
-    go waiting x g = let z : ◌≡◌ {A = ℕ} 0 1 = cc in absurd (omega arith)
-    go out x g = let z : ◌≡◌ {A = ℕ} 0 1 = cc in absurd (omega arith)
-    go (stuck f l) x g = let p = serial_stuck k s f l (g m) in (ap (λ (x : Result). some x.outcome) (sym p), ap (λ (x : Result). x.steps) p, ap (λ (x : Result). x.made) p)
+    go : (v : Status) → is_stuck v ≡ true → Stands k u.task v → (stuck_outcome u.task.place v ≡ Some q.outcome) × (q.steps ≡ n) × (q.made ≡ c)
+    go waiting x g = cc
+    go out x g = cc
+    go (stuck f l) x g = let p = serial_stuck k s f l (g m) in (ap (λ (x : Result). Some x.outcome) (sym p), ap (λ (x : Result). x.steps) p, ap (λ (x : Result). x.made) p)
 
 counts_from : (o : Outcome) (r q : Result) (b : Bench) → Counted o r q → q.steps ≡ b.steps → q.made ≡ b.made → Counts o r b
 counts_from (words m) r q b h e d = (sym e ∙ h.0, sym d ∙ h.1)
@@ -181,7 +180,7 @@ agreement k c r b s h x =
     let f = h.sound.follows in
     let e = settled_ends k b.store b.line b.steps b.made f.result x h.sound.orderly.stands f.serial in
     let worked = (serially_agrees k c r).1 s in
-    let same : outcome b ≡ some r.outcome = e.0 ∙ ap (λ (o : Outcome). some o) f.same in
+    let same : outcome b ≡ Some r.outcome = e.0 ∙ ap (λ (o : Outcome). Some o) f.same in
     let counts : Counts r.outcome r b = counts_from r.outcome r f.result b f.counted e.1 e.2 in
     record {
       serial = r;

@@ -1,5 +1,5 @@
 -- What a request needs, and what does not depend on the words.
-use Rattle.std.proofs.Common.{◌≡◌, ℕ, zero, suc, true, List, refl, arith}
+use Rattle.std.proofs.Common.{◌≡◌, ℕ, zero, suc, true, List, refl}
 use Rattle.std.proofs.lemmas.Bool.{cond_both}
 use Rattle.kinds.specs.Kinds.{Kind}
 use Rattle.cards.specs.declared.lines.Access.{Access}
@@ -9,7 +9,7 @@ use Rattle.cards.specs.declared.lines.Level.TheVariants.{Absent, Deferred, Immed
 use Rattle.cards.specs.Code.{Block, end, next, Statement}
 use Rattle.working.specs.declared.fault.FaultKind.{FaultKind}
 use Rattle.working.specs.Tasks.{is_immediate, Task}
-use Rattle.working.specs.Requests.{Next, Request, fault, quiet, read, write, join, Section, refused, accepted, after_with, after_task, under, statement_request, block_request, request, faulted, Reply, stepped, reply}
+use Rattle.working.specs.Requests.{Request, fault, quiet, read, write, join, Section, refused, accepted, after_with, after_task, under, statement_request, block_request, request, faulted, reply}
 use Rattle.working.proofs.Fine.{at}
 
 -- the access that a request uses is immediate
@@ -23,8 +23,8 @@ Allowed t (join o w n) = at t o Cm ≡ Immediate
 -- The access is immediate.
 
 immediate_is : (l : Level) → is_immediate l ≡ true → l ≡ Immediate
-immediate_is Absent e = let z : ◌≡◌ {A = ℕ} 0 1 = cc in absurd (omega arith)
-immediate_is Deferred e = let z : ◌≡◌ {A = ℕ} 0 1 = cc in absurd (omega arith)
+immediate_is Absent e = cc
+immediate_is Deferred e = cc
 immediate_is Immediate e = refl
 
 allowed_under : (t : Task) (a : Access) (o : ℕ) (r : Request) (f : FaultKind) (l : ℕ) → (at t o a ≡ Immediate → Allowed t r) → Allowed t (under t a o r (fault f l))
@@ -70,10 +70,7 @@ allowed k t = allowed_block k t t.work
 pub fault_reply : (r : Request) (f : FaultKind) (l : ℕ) (m m' : List ℕ) → reply m r ≡ faulted f l → reply m' r ≡ faulted f l
 unfolding reply
 fault_reply (fault f₁ l₁) f l m m' e = e
-fault_reply (quiet n) f l m m' e = let z : ◌≡◌ {A = ℕ} 0 1 = cc in absurd (omega arith)
-fault_reply (read o n) f l m m' e = let z : ◌≡◌ {A = ℕ} 0 1 = cc in absurd (omega arith)
+fault_reply (quiet n) f l m m' e = cc
+fault_reply (read o n) f l m m' e = cc
 fault_reply (write o w n) f l m m' e = e
 fault_reply (join o w n) f l m m' e = e
-
-pub no_step : (p : Reply) (f : FaultKind) (l : ℕ) (x : Next) → p ≡ faulted f l → p ≡ stepped x → ⊥
-no_step p f l x d q = let z : ◌≡◌ {A = ℕ} 0 1 = cc in omega arith

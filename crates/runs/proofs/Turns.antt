@@ -1,9 +1,7 @@
 -- One turn: what is offered can be taken, what is taken can be performed, and less is left to do.
-use Rattle.std.proofs.Common.{◌≡◌, ℕ, zero, suc, ◌<◌, Bool, true, false, cond, not, List, [], ◌∷◌, ◌++◌, length, get_or, sym, refl, ap, ◌∙◌, subst, ⊎_elim, append_assoc, arith}
-use mathlib.Core.Option.{some}
+use Rattle.std.proofs.Common.{◌≡◌, ℕ, zero, suc, ◌<◌, Bool, true, false, cond, List, [], ◌∷◌, ◌++◌, length, get_or, Some, sym, refl, ap, ◌∙◌, subst, ⊎_elim, append_assoc, arith}
 use Rattle.std.specs.List.{AllByRecursion}
 use Rattle.std.proofs.ByRecursion.{All-weaker}
-use Rattle.std.proofs.lemmas.Bool.{both_ways, not-true, and_parts}
 use Rattle.kinds.specs.Kinds.{Kind}
 use Rattle.cards.specs.Code.{Card}
 use Rattle.working.specs.Requests.{Next, leaves, goes, makes, Reply, faulted, stepped}
@@ -46,20 +44,18 @@ offered_at line before (s ∷ ss) i e h = go (on_offer line s) refl i h (λ j. o
 
 offered_waits : (line : List Member) (s : Member) → on_offer line s ≡ true → s.status ≡ waiting
 unfolding on_offer ready is_stuck is_out
-offered_waits line s e =
-    let p = and_parts (ready line s) (not (is_out s.status)) e in
-    go s.status (not-true _ (and_parts (not (is_stuck s.status)) _ p.0).0) (not-true _ p.1)
+offered_waits line s e = go s.status (grind arith) (grind arith)
   where
     go : (u : Status) → is_stuck u ≡ false → is_out u ≡ false → u ≡ waiting
     go waiting p q = refl
-    go out p q = let z : ◌≡◌ {A = ℕ} 0 1 = cc in absurd (omega arith)
-    go (stuck f l) p q = let z : ◌≡◌ {A = ℕ} 0 1 = cc in absurd (omega arith)
+    go out p q = cc
+    go (stuck f l) p q = cc
 
 -- numbers differ, so a member that stands in the line is found
 differs : (k : Kind) (before : List Member) (s : Member) (behind : List Member) (made : ℕ) → Orderly k (before ++ (s ∷ behind)) made → AllByRecursion (λ u. u.number ≡ s.number → ⊥) before
 differs k before s behind made h = All-weaker _ _ (λ u g. g.differ) before (pairs_before Beside before s behind h.pairs)
 
-pub find_split : (k : Kind) (line before : List Member) (s : Member) (behind : List Member) (made : ℕ) → Orderly k line made → line ≡ before ++ (s ∷ behind) → find s.number line ≡ some s
+pub find_split : (k : Kind) (line before : List Member) (s : Member) (behind : List Member) (made : ℕ) → Orderly k line made → line ≡ before ++ (s ∷ behind) → find s.number line ≡ Some s
 find_split k line before s behind made h e = rw e (find_at before s behind (differs k before s behind made (subst (λ (l : List Member). Orderly k l made) e h)))
 
 pub place_below : (f : List ℕ → ℕ) (ns : List ℕ) → Chooses f → (ns ≡ [] → ⊥) → f ns < length ns
@@ -69,7 +65,7 @@ place_below f (n ∷ ns) l h = l n ns
 -- what is chosen from an offer can be taken
 pub record Taken (f : List ℕ → ℕ) (b : Bench) : Type 0 where
   pub one : Member
-  pub here : find (chosen f (offer b)) b.line ≡ some one
+  pub here : find (chosen f (offer b)) b.line ≡ Some one
   pub waits : one.status ≡ waiting
   pub allowed : grants (took (chosen f (offer b))) b ≡ true
 
@@ -77,7 +73,7 @@ pub taken : (k : Kind) (c : Card) (r : Result) (f : List ℕ → ℕ) (b : Bench
 unfolding offer grants can_take
 taken k c r f b h l o =
     let w = offered_at b.line [] b.line (f (offer b)) refl (place_below f (offer b) l o) in
-    let e = subst (λ (n : ℕ). find n b.line ≡ some w.one) w.number (find_split k b.line w.before w.one w.behind b.made h.sound.orderly w.split) in
+    let e = subst (λ (n : ℕ). find n b.line ≡ Some w.one) w.number (find_split k b.line w.before w.one w.behind b.made h.sound.orderly w.split) in
     record { one = w.one; here = e; waits = offered_waits b.line w.one w.offers; allowed = found_test (chosen f (offer b)) b.line (on_offer b.line) w.one e w.offers }
 
 -- No turn is out after a step of the only one whose turn is out.
@@ -111,7 +107,7 @@ marked_found b s u f = record {
   replaced = λ new. replace_replaced s.number (with_status s u) refl new b.line ∙ f.replaced new;
 }
 
-pub marked_find : (b : Bench) (s : Member) (u : Status) → find s.number b.line ≡ some s → find s.number (marked b s u).line ≡ some (with_status s u)
+pub marked_find : (b : Bench) (s : Member) (u : Status) → find s.number b.line ≡ Some s → find s.number (marked b s u).line ≡ Some (with_status s u)
 unfolding marked bench with_status member
 marked_find b s u e = find_replaced s.number (with_status s u) refl b.line s e
 
@@ -121,18 +117,18 @@ unfolding has_turn is_out with_status member
 taken_out f b t =
     let n = chosen f (offer b) in
     let own : t.one.number ≡ n = (found n b.line t.one t.here).number in
-    let e : find n (marked b t.one out).line ≡ some (with_status t.one out) = subst (λ (i : ℕ). find i b.line ≡ some t.one → find i (marked b t.one out).line ≡ some (with_status t.one out)) own (marked_find b t.one out) t.here in
+    let e : find n (marked b t.one out).line ≡ Some (with_status t.one out) = subst (λ (i : ℕ). find i b.line ≡ Some t.one → find i (marked b t.one out).line ≡ Some (with_status t.one out)) own (marked_find b t.one out) t.here in
     ap (λ (v : Bench). has_turn n v.line) (put_found n out b t.one t.here) ∙ found_test n (marked b t.one out).line (λ s. is_out s.status) (with_status t.one out) e refl
 
 -- the turn of the chosen task is taken and performed by granted events
 pub record Turns (k : Kind) (f : List ℕ → ℕ) (b : Bench) : Type 0 where
-  pub takes : apply k (took (chosen f (offer b))) b ≡ some (effect k (took (chosen f (offer b))) b)
-  pub performs : apply k (performed (chosen f (offer b))) (effect k (took (chosen f (offer b))) b) ≡ some (turned k f b)
+  pub takes : apply k (took (chosen f (offer b))) b ≡ Some (effect k (took (chosen f (offer b))) b)
+  pub performs : apply k (performed (chosen f (offer b))) (effect k (took (chosen f (offer b))) b) ≡ Some (turned k f b)
   pub none_out : any_out (turned k f b).line ≡ false
   pub going_on : (turned k f b).closed ≡ false
   pub falls : left (turned k f b).line < left b.line
 
-turned_is : (k : Kind) (f : List ℕ → ℕ) (b : Bench) (s : Member) → find (chosen f (offer b)) b.line ≡ some s → find (chosen f (offer b)) (marked b s out).line ≡ some (with_status s out) → turned k f b ≡ step k (marked b s out) (with_status s out)
+turned_is : (k : Kind) (f : List ℕ → ℕ) (b : Bench) (s : Member) → find (chosen f (offer b)) b.line ≡ Some s → find (chosen f (offer b)) (marked b s out).line ≡ Some (with_status s out) → turned k f b ≡ step k (marked b s out) (with_status s out)
 unfolding turned effect
 turned_is k f b s e g = let n = chosen f (offer b) in ap (advanced k n) (put_found n out b s e) ∙ advanced_found k n (marked b s out) (with_status s out) g
 
@@ -145,7 +141,7 @@ turns_taken k f b z o t =
     let at = found_own n b.line u was in
     let parts = none_out_parts at.before u at.behind (rw at.split at o) in
     let going_on : (put n out b).closed ≡ false = put_closed n out b ∙ z in
-    let there : find n (marked b u out).line ≡ some (with_status u out) = subst (λ (i : ℕ). find i b.line ≡ some u → find i (marked b u out).line ≡ some (with_status u out)) was.number (marked_find b u out) t.here in
+    let there : find n (marked b u out).line ≡ Some (with_status u out) = subst (λ (i : ℕ). find i b.line ≡ Some u → find i (marked b u out).line ≡ Some (with_status u out)) was.number (marked_find b u out) t.here in
     let q = turned_is k f b u t.here there in
     let kept = marked_keeps b u out at (ap (λ (v : Status). weight v u.task) (sym t.waits)) in
     record {
@@ -166,5 +162,5 @@ chosen_taken f b e =
 pub turns : (k : Kind) (c : Card) (r : Result) (f : List ℕ → ℕ) (b : Bench) → Holds k c r b → b.closed ≡ false → any_out b.line ≡ false → settled b ≡ false → Chooses f → Turns k f b
 unfolding settled offer
 turns k c r f b h z o s l =
-    let some_offered : offer b ≡ [] → ⊥ = ⊎_elim (λ e. absurd (both_ways (any_out b.line) o e)) (λ e. e) (first_offered b.line s) in
+    let some_offered : offer b ≡ [] → ⊥ = ⊎_elim (λ e. cc) (λ e. e) (first_offered b.line s) in
     turns_taken k f b z o (taken k c r f b h l some_offered)

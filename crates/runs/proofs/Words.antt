@@ -1,5 +1,5 @@
 -- Objects and tasks hold words, and every step keeps that.
-use Rattle.std.proofs.Common.{◌≡◌, ℕ, zero, suc, Bool, cond, List, [], ◌∷◌, ◌++◌, get_or, replicate, pos, arith}
+use Rattle.std.proofs.Common.{◌≡◌, ℕ, zero, suc, Bool, cond, List, [], ◌∷◌, ◌++◌, get_or, pos, arith}
 use Rattle.std.proofs.lemmas.Int.{ints}
 use Rattle.std.specs.List.{AllByRecursion}
 use Rattle.std.proofs.lemmas.Bool.{cond_both}
@@ -30,10 +30,6 @@ words_getD : (ws : List ℕ) (i : ℕ) → AllByRecursion IsWord ws → IsWord (
 words_getD [] i h = omega arith
 words_getD (w ∷ ws) zero h = h.0
 words_getD (w ∷ ws) (suc i) h = words_getD ws i h.1
-
-words_replicate : (n w : ℕ) → IsWord w → AllByRecursion IsWord (replicate n w)
-words_replicate zero w h = tt
-words_replicate (suc n) w h = (h, words_replicate n w h)
 
 literals_before : (x b : Block) → BlockLiterals x → BlockLiterals b → BlockLiterals (x before b)
 unfolding ◌before◌
@@ -68,14 +64,11 @@ keeps_arm t z x y b h p q g = record { words = h; work = literals_before (cond z
 
 reply_words : (m : List ℕ) (r : Request) (x : Next) → AllByRecursion IsWord m → Keeps r → reply m r ≡ stepped x → AllByRecursion Worded (segment x)
 unfolding reply
-reply_words m (fault f l) x h g e = let z : ◌≡◌ {A = ℕ} 0 1 = cc in absurd (omega arith)
+reply_words m (fault f l) x h g e = cc
 reply_words m (quiet n) x h g e = let q : n ≡ x = cc in rw (← q) g
 reply_words m (read o n) x h g e = let q : n (get_or m o 0) ≡ x = cc in rw (← q) (g (get_or m o 0) (words_getD m o h))
 reply_words m (write o w n) x h g e = let q : n ≡ x = cc in rw (← q) g.1
 reply_words m (join o w n) x h g e = let q : n ≡ x = cc in rw (← q) g.1
-
-zero_literal : IsLiteral (pos 0)
-zero_literal = (omega (arith, ints), omega (arith, ints))
 
 module _ (k : Kind) (law : Lawful k) where
   keeps_statement : (t : Task) (l : ℕ) (s : Statement) (b : Block) → AllByRecursion IsWord t.words → StatementLiterals s → BlockLiterals b → Keeps (statement_request k t l s b)
@@ -124,7 +117,8 @@ module _ (k : Kind) (law : Lawful k) where
 
   pub words_opened : (c : Card) → Literals c → WholeWords (starting_words k c) (main k c ∷ [])
   unfolding starting_words main
-  words_opened c h = record {
-    store = All-map IsWord k.literal c.words (All-weaker IsLiteral (λ z. IsWord (k.literal z)) law.literal_word c.words (literals_are c.words h.words));
-    tasks = (record { words = words_replicate 4 _ (law.literal_word (pos 0) zero_literal); work = block_literals_are c.body h.body }, tt);
-  }
+  words_opened c h =
+      let start : IsWord (k.literal (pos 0)) = law.literal_word (pos 0) (omega (arith, ints), omega (arith, ints)) in record {
+        store = All-map IsWord k.literal c.words (All-weaker IsLiteral (λ z. IsWord (k.literal z)) law.literal_word c.words (literals_are c.words h.words));
+        tasks = (record { words = (start, (start, (start, (start, tt)))); work = block_literals_are c.body h.body }, tt);
+      }

@@ -1,7 +1,6 @@
 -- A work-off ends where the bench can close, and granted events lead there.
-use Rattle.std.proofs.Common.{◌≡◌, ℕ, zero, suc, ◌≤◌, Bool, true, false, cond, not, ◌&&◌, eqb, List, sym, refl, ap, ◌∙◌, arith}
-use mathlib.Core.Option.{Option, none, some}
-use Rattle.std.proofs.lemmas.Bool.{not-true, not_from_false, and_parts, and_from, cond-true, cond-false}
+use Rattle.std.proofs.Common.{◌≡◌, ℕ, zero, suc, ◌≤◌, Bool, true, false, cond, not, eqb, List, Some, None, Option, sym, refl, ap, ap₂, ◌∙◌, arith}
+use Rattle.std.proofs.lemmas.Bool.{cond-true, cond-false}
 use Rattle.kinds.specs.Kinds.{Kind, Lawful}
 use Rattle.cards.specs.Code.{Card}
 use Rattle.working.specs.Serial.{Result}
@@ -117,29 +116,26 @@ module _ (k : Kind) (law : Lawful k) (c : Card) (n : ℕ) (r : Result) where
 
 pub going_open : (g : Going) (b : Bench) → fits_going g b ≡ true → b.closed ≡ false
 unfolding fits_going
-going_open g b e = not-true _ (and_parts (eqb g.run b.run) (not b.closed) e).1
+going_open g b e = grind arith
 
-no_refusal : (k : Kind) (g : Going) (fs : ℕ → List ℕ → ℕ) (b : Bench) → refusal k (Call.work_off g fs) b ≡ none → (fits_going g b ≡ true) × (any_out b.line ≡ false)
+no_refusal : (k : Kind) (g : Going) (fs : ℕ → List ℕ → ℕ) (b : Bench) → refusal k (Call.work_off g fs) b ≡ None → (fits_going g b ≡ true) × (any_out b.line ≡ false)
 unfolding refusal fits own_refusal unless
 no_refusal k g fs b e = go (fits_going g b) (any_out b.line) e
   where
-    go : (x y : Bool) → cond {A = Option Refusal} x (unless (not y) Unsettled) (some Foreign) ≡ none → (x ≡ true) × (y ≡ false)
-    go true true e = let z : ◌≡◌ {A = ℕ} 0 1 = cc in absurd (omega arith)
+    go : (x y : Bool) → cond {A = Option Refusal} x (unless (not y) Unsettled) (Some Foreign) ≡ None → (x ≡ true) × (y ≡ false)
+    go true true e = cc
     go true false e = (refl, refl)
-    go false y e = let z : ◌≡◌ {A = ℕ} 0 1 = cc in absurd (omega arith)
+    go false y e = cc
 
-granted_still : (k : Kind) (g : Going) (fs : ℕ → List ℕ → ℕ) (b b₁ : Bench) → b₁.run ≡ b.run → fits_going g b ≡ true → b₁.closed ≡ false → any_out b₁.line ≡ false → refusal k (Call.work_off g fs) b₁ ≡ none
+granted_still : (k : Kind) (g : Going) (fs : ℕ → List ℕ → ℕ) (b b₁ : Bench) → b₁.run ≡ b.run → fits_going g b ≡ true → b₁.closed ≡ false → any_out b₁.line ≡ false → refusal k (Call.work_off g fs) b₁ ≡ None
 unfolding refusal fits own_refusal unless fits_going
 granted_still k g fs b b₁ e h z o =
-    let p : (eqb g.run b₁.run && not b₁.closed) ≡ true = and_from _ _ (ap (λ (r : ℕ). eqb g.run r) e ∙ (and_parts (eqb g.run b.run) (not b.closed) h).0) (not_from_false _ z) in
-    cond-true (eqb g.run b₁.run && not b₁.closed) _ _ p ∙ ap (λ (x : Bool). unless (not x) Unsettled) o
+    let own : eqb g.run b.run ≡ true = grind arith in
+    rw (z, o, e, own)
 
 pub turned_run : (k : Kind) (f : List ℕ → ℕ) (b : Bench) → (turned k f b).run ≡ b.run
 unfolding turned
 turned_run k f b = effect_run k (performed (chosen f (offer b))) (effect k (took (chosen f (offer b))) b) ∙ effect_run k (took (chosen f (offer b))) b
-
-pair : {a a₁ : Answer} {b b₁ : Bench} → a ≡ a₁ → b ≡ b₁ → ◌≡◌ {A = Answer × Bench} (a, b) (a₁, b₁)
-pair p q = λ i. (p i, q i)
 
 -- the refusal does not depend on the choices
 call_is : (k : Kind) (g : Going) (fs hs : ℕ → List ℕ → ℕ) (b : Bench) (o : Option Refusal) → refusal k (Call.work_off g hs) b ≡ o → answer k (Call.work_off g fs) b ≡ answered o b (Answer.going g, worked_off k (left b.line) fs b)
@@ -147,13 +143,13 @@ unfolding answer refusal fits own_refusal granted
 call_is k g fs hs b o e = ap (λ (r : Option Refusal). answered r b (Answer.going g, worked_off k (left b.line) fs b)) e
 
 module _ (S : Type 0) (choice : S → List ℕ → ℕ) (next : S → List ℕ → S → Type 0) (chooses : (s : S) → Chooses (choice s)) (k : Kind) (law : Lawful k) (c : Card) (ls : Literals c) (n : ℕ) (b : Bench) (reached : Reached k c n b) where
-  at_work : (g : Going) (s : S) → refusal k (Call.work_off g (λ i. choice s)) b ≡ none → AtWork k c n (serially_ends k c).0 b
+  at_work : (g : Going) (s : S) → refusal k (Call.work_off g (λ i. choice s)) b ≡ None → AtWork k c n (serially_ends k c).0 b
   at_work g s e =
       let w = serially_ends k c in
       let h = no_refusal k g _ b e in
       record { holds = reached_holds k law c ls n w.0 b w.1 reached; reached = reached; going_on = going_open g b h.0; none_out = h.1 }
 
-  works_granted : (g : Going) (s : S) → refusal k (Call.work_off g (λ i. choice s)) b ≡ none → Works k c n S choice next s b
+  works_granted : (g : Going) (s : S) → refusal k (Call.work_off g (λ i. choice s)) b ≡ None → Works k c n S choice next s b
   works_granted g s e =
       let r = (serially_ends k c).0 in
       let h = at_work g s e in
@@ -162,7 +158,7 @@ module _ (S : Type 0) (choice : S → List ℕ → ℕ) (next : S → List ℕ �
         leaves = λ s₁ b₁ d. let x = relation_rests k law c n r S choice next chooses d h in (record { settled_yet = x.settled_yet; none_out = x.kept.none_out }, x.kept.going_on, x.kept.reached);
       }
 
-  turns_on : (g : Going) (s : S) → refusal k (Call.work_off g (λ i. choice s)) b ≡ none → settled b ≡ false → TurnsOn k c n g (λ i. choice s) b (turned k (choice s) b)
+  turns_on : (g : Going) (s : S) → refusal k (Call.work_off g (λ i. choice s)) b ≡ None → settled b ≡ false → TurnsOn k c n g (λ i. choice s) b (turned k (choice s) b)
   turns_on g s e x =
       let r = (serially_ends k c).0 in
       let t = turn_of_work k law c n r (choice s) b (at_work g s e) x (chooses s) in
@@ -177,10 +173,10 @@ module _ (S : Type 0) (choice : S → List ℕ → ℕ) (next : S → List ℕ �
   is_call g s a s₁ b₁ h = go (refusal k (Call.work_off g (λ i. choice s)) b) refl h
     where
       go : (o : Option Refusal) → refusal k (Call.work_off g (λ i. choice s)) b ≡ o → ByRefusal k S choice next o g s b a s₁ b₁ → IsCall k g b a b₁
-      go (some m) e w = ((λ i. choice s), (λ i. chooses s), call_is k g (λ i. choice s) (λ i. choice s) b (some m) e ∙ sym (pair w.0 w.2))
-      go none e w =
+      go (Some m) e w = ((λ i. choice s), (λ i. chooses s), call_is k g (λ i. choice s) (λ i. choice s) b (Some m) e ∙ ap₂ (λ (x : Answer) (y : Bench). (x, y)) (sym w.0) (sym w.2))
+      go None e w =
           let x = relation_called k law c n (serially_ends k c).0 S choice next chooses w.1 (at_work g s e) in
-          (x.0, x.1, call_is k g x.0 (λ i. choice s) b none e ∙ pair (sym w.0) (x.2 (left b.line) (omega arith)))
+          (x.0, x.1, call_is k g x.0 (λ i. choice s) b None e ∙ ap₂ (λ (x : Answer) (y : Bench). (x, y)) (sym w.0) (x.2 (left b.line) (omega arith)))
 
 pub work_off_promise : (S : Type 0) (choice : S → List ℕ → ℕ) (next : S → List ℕ → S → Type 0) → ((s : S) → Chooses (choice s)) → WorkOffPromise S choice next
 work_off_promise S choice next chooses k c law ls n b reached = record {

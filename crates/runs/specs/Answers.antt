@@ -1,10 +1,10 @@
 -- What each call answers, and what it leaves.
-use Rattle.std.specs.Prelude.{ℕ, zero, suc, cond, List, [], ◌∷◌, ◌++◌, length, drop}
-use Rattle.std.proofs.Math.Option.{Option, none, some, Option-elim}
+use Rattle.std.specs.Prelude.{ℕ, zero, suc, cond, List, [], ◌∷◌, ◌++◌, length, drop, Some, None, Option, slice_get}
+use Rattle.std.specs.Option.{option_map_or}
 use Rattle.kinds.specs.Kinds.{Kind}
 use Rattle.working.specs.Requests.{Reply, faulted, stepped}
 use Rattle.runs.specs.Lines.{find}
-use Rattle.runs.specs.Queues.{queue, entry_at}
+use Rattle.runs.specs.Queues.{queue}
 use Rattle.runs.specs.Benches.{Bench, offer, settled}
 use Rattle.runs.specs.Steps.{replied}
 use Rattle.runs.specs.Events.{Event, took, performed, handed_back, effect}
@@ -21,7 +21,7 @@ reply_answer (stepped x) = done
 
 -- what a step of task n answers
 unfoldable pub step_answer : Kind → ℕ → Bench → Answer
-step_answer k n b = Option-elim (find n b.line) (refused Foreign) λ s. reply_answer (replied k b s)
+step_answer k n b = option_map_or (λ s. reply_answer (replied k b s)) (find n b.line) (refused Foreign)
 
 -- the turn of the task that f chooses is taken and performed
 unfoldable pub turned : Kind → (List ℕ → ℕ) → Bench → Bench
@@ -41,15 +41,15 @@ unfoldable pub granted : Kind → Call → Bench → Answer × Bench
 granted k (take g f) b = (turn (turn_of b.run (chosen f (offer b))), effect k (took (chosen f (offer b))) b)
 granted k (perform t) b = (step_answer k t.task b, effect k (performed t.task) b)
 granted k (hand_back t) b = (returned, effect k (handed_back t.task) b)
-granted k (look o i) b = (entry (entry_at i (queue o b.line)), b)
+granted k (look o i) b = (entry (slice_get (queue o b.line) i), b)
 granted k (work_off g fs) b = (going g, worked_off k (left b.line) fs b)
 granted k (close g) b = (closed (closed_state b.run), effect k Event.closed b)
 granted k (sheet z buffer) b = ((write_out (bench_sheet k b) buffer).0, b)
 
 -- a refused call leaves x as it is
 unfoldable pub answered : {X : Type 0} → Option Refusal → X → Answer × X → Answer × X
-answered none x r = r
-answered (some n) x r = (refused n, x)
+answered None x r = r
+answered (Some n) x r = (refused n, x)
 
 unfoldable pub answer : Kind → Call → Bench → Answer × Bench
 answer k x b = answered (refusal k x b) b (granted k x b)

@@ -1,6 +1,5 @@
 -- A bench, and what is known of its run at a moment.
-use Rattle.std.specs.Prelude.{ℕ, Bool, true, false, List, [], ◌∷◌}
-use Rattle.std.proofs.Math.Option.{Option, none, some}
+use Rattle.std.specs.Prelude.{ℕ, Bool, true, false, List, [], ◌∷◌, Some, None, Option}
 use Rattle.kinds.specs.Kinds.{Kind}
 use Rattle.cards.specs.Code.{Card}
 use Rattle.working.specs.Tasks.{main, starting_words}
@@ -37,12 +36,12 @@ settled b = settled_line b.line
 
 -- then the outcome is the word in every object, or that fault with its line and its task's place
 unfoldable pub stuck_outcome : List ℕ → Status → Option Outcome
-stuck_outcome p waiting = none
-stuck_outcome p out = none
-stuck_outcome p (stuck f l) = some (fault f l p)
+stuck_outcome p waiting = None
+stuck_outcome p out = None
+stuck_outcome p (stuck f l) = Some (fault f l p)
 
 unfoldable pub line_outcome : List ℕ → List Member → Option Outcome
-line_outcome m [] = some (words m)
+line_outcome m [] = Some (words m)
 line_outcome m (s ∷ ss) = stuck_outcome s.task.place s.status
 
 unfoldable pub outcome : Bench → Option Outcome

@@ -1,6 +1,5 @@
 -- The calls of a bench, and what they can answer.
-use Rattle.std.specs.Prelude.{ℕ, List, [], ◌∷◌}
-use Rattle.std.proofs.Math.Option.{Option}
+use Rattle.std.specs.Prelude.{ℕ, List, [], ◌∷◌, Option}
 use Rattle.working.specs.declared.fault.FaultKind.{FaultKind}
 use Rattle.runs.specs.Queues.{Entry}
 use Rattle.runs.specs.Choices.{Chooses}

@@ -1,6 +1,5 @@
 -- The steps that calls make: the performs that answer done, those in work-offs too.
-use Rattle.std.specs.Prelude.{ℕ, zero, suc, ◌+◌, cond, List, [], ◌∷◌}
-use Rattle.std.proofs.Math.Option.{Option, none, some}
+use Rattle.std.specs.Prelude.{ℕ, zero, suc, ◌+◌, cond, List, [], ◌∷◌, Some, None, Option}
 use Rattle.kinds.specs.Kinds.{Kind}
 use Rattle.runs.specs.Benches.{Bench, offer, settled}
 use Rattle.runs.specs.Events.{took, effect}
@@ -40,8 +39,8 @@ granted_done k (close g) b = 0
 granted_done k (sheet z buffer) b = 0
 
 unfoldable pub unless_refused : Option Refusal → ℕ → ℕ
-unless_refused none n = n
-unless_refused (some r) n = 0
+unless_refused None n = n
+unless_refused (Some r) n = 0
 
 unfoldable pub calls_done : Kind → List Call → Bench → ℕ
 calls_done k [] b = 0

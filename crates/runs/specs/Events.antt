@@ -1,6 +1,6 @@
 -- The events of a run, and what a list of granted ones makes of a bench.
-use Rattle.std.specs.Prelude.{ℕ, Bool, false, cond, not, ◌&&◌, List, [], ◌∷◌}
-use Rattle.std.proofs.Math.Option.{Option, none, some, Option-elim}
+use Rattle.std.specs.Prelude.{ℕ, Bool, false, cond, not, ◌&&◌, List, [], ◌∷◌, Some, None, Option, option_and_then}
+use Rattle.std.specs.Option.{option_map_or}
 use Rattle.kinds.specs.Kinds.{Kind}
 use Rattle.runs.specs.Lines.{waiting, out, is_out, Member, find, any_out}
 use Rattle.runs.specs.Ready.{on_offer}
@@ -13,10 +13,10 @@ pub data Event : Type 0 where
   closed : Event
 
 unfoldable pub can_take : ℕ → List Member → Bool
-can_take n line = Option-elim (find n line) false (on_offer line)
+can_take n line = option_map_or (on_offer line) (find n line) false
 
 unfoldable pub has_turn : ℕ → List Member → Bool
-has_turn n line = Option-elim (find n line) false λ s. is_out s.status
+has_turn n line = option_map_or (λ s. is_out s.status) (find n line) false
 
 -- settled, with no turn out
 unfoldable pub can_close : Bench → Bool
@@ -37,8 +37,8 @@ effect k closed b = shut b
 
 -- none where the event is not granted
 unfoldable pub apply : Kind → Event → Bench → Option Bench
-apply k e b = cond (not b.closed && grants e b) (some (effect k e b)) none
+apply k e b = cond (not b.closed && grants e b) (Some (effect k e b)) None
 
 unfoldable pub replay : Kind → List Event → Bench → Option Bench
-replay k [] b = some b
-replay k (e ∷ es) b = Option-elim (apply k e b) none (replay k es)
+replay k [] b = Some b
+replay k (e ∷ es) b = option_and_then (replay k es) (apply k e b)

@@ -1,6 +1,5 @@
 -- Runs of two cards, worked out.
-use Rattle.std.specs.Prelude.{◌≡◌, ℕ, ◌-◌, ◌^◌, true, List, [], ◌∷◌, ◌++◌, replicate, pos, negsuc, codes}
-use Rattle.std.proofs.Math.Option.{Option, none, some, Option-elim}
+use Rattle.std.specs.Prelude.{◌≡◌, ℕ, ◌-◌, ◌^◌, true, List, [], ◌∷◌, ◌++◌, replicate, pos, negsuc, Some, None, codes, Option, option_and_then}
 use Prim.Native.String.{String}
 use Rattle.kinds.specs.Values.{tally}
 use Rattle.cards.specs.declared.lines.Access.{Access}
@@ -83,7 +82,7 @@ after es = replay tally es (opened tally two_faults 3)
 
 -- the outcome, if the run is settled
 abbrev settles : List Event → Option Outcome
-settles es = Option-elim (after es) none outcome
+settles es = option_and_then outcome (after es)
 
 -- the answers of a list of calls
 abbrev answers : List Call → Bench → List Answer
@@ -94,15 +93,15 @@ abbrev first : List ℕ → ℕ
 first ns = 0
 
 pub record WorkedExamples : Type 0 where
-  pub backwards_closes : replay tally backwards (opened tally two_children 7) ≡ some two_children_closed
-  pub side_by_side_closes : replay tally side_by_side (opened tally two_children 7) ≡ some two_children_closed
+  pub backwards_closes : replay tally backwards (opened tally two_children 7) ≡ Some two_children_closed
+  pub side_by_side_closes : replay tally side_by_side (opened tally two_children 7) ≡ Some two_children_closed
   pub sheet_written : sheet_call tally (closed_state 7) (replicate 50 46) two_children_closed ≡ (written 39, two_children_sheet ++ replicate 11 46)
   pub buffer_too_short : sheet_call tally (closed_state 7) (replicate 38 46) two_children_closed ≡ (refused BufferTooShort, replicate 38 46)
   -- the first in line tells the fault, whichever task faults first
-  pub first_faults_first : settles (turn_by_turn (0 ∷ 0 ∷ 1 ∷ [])) ≡ some (fault Read 5 (1 ∷ []))
-  pub second_faults_first : settles (turn_by_turn (0 ∷ 0 ∷ 0 ∷ 2 ∷ 1 ∷ [])) ≡ some (fault Read 5 (1 ∷ []))
-  pub second_faults_alone : settles (turn_by_turn (0 ∷ 0 ∷ 0 ∷ 2 ∷ 0 ∷ [])) ≡ none
-  pub both_out : settles (turn_by_turn (0 ∷ 0 ∷ 0 ∷ []) ++ (took 2 ∷ took 0 ∷ took 1 ∷ performed 1 ∷ performed 0 ∷ performed 2 ∷ Event.closed ∷ [])) ≡ some (fault Read 5 (1 ∷ []))
+  pub first_faults_first : settles (turn_by_turn (0 ∷ 0 ∷ 1 ∷ [])) ≡ Some (fault Read 5 (1 ∷ []))
+  pub second_faults_first : settles (turn_by_turn (0 ∷ 0 ∷ 0 ∷ 2 ∷ 1 ∷ [])) ≡ Some (fault Read 5 (1 ∷ []))
+  pub second_faults_alone : settles (turn_by_turn (0 ∷ 0 ∷ 0 ∷ 2 ∷ 0 ∷ [])) ≡ None
+  pub both_out : settles (turn_by_turn (0 ∷ 0 ∷ 0 ∷ []) ++ (took 2 ∷ took 0 ∷ took 1 ∷ performed 1 ∷ performed 0 ∷ performed 2 ∷ Event.closed ∷ [])) ≡ Some (fault Read 5 (1 ∷ []))
   -- refusals, the foreign ones first
   pub refusals :
       answers (
@@ -111,6 +110,6 @@ pub record WorkedExamples : Type 0 where
       ∷ close (going_state 7) ∷ close (going_state 7) ∷ take (going_state 7) first ∷ sheet (closed_state 8) [] ∷ sheet (closed_state 7) [] ∷ []
       ) (opened tally two_children 7) ≡ (
       refused Foreign ∷ refused Unsettled ∷ refused Foreign ∷ refused Foreign ∷ turn (turn_of 7 0) ∷ refused NothingToOffer ∷ refused Unsettled
-      ∷ refused Foreign ∷ returned ∷ refused Foreign ∷ entry (some (record { number = 0; declared = everything })) ∷ entry none ∷ entry none ∷ refused Foreign ∷ going (going_state 7) ∷ refused NothingToOffer
+      ∷ refused Foreign ∷ returned ∷ refused Foreign ∷ entry (Some (record { number = 0; declared = everything })) ∷ entry None ∷ entry None ∷ refused Foreign ∷ going (going_state 7) ∷ refused NothingToOffer
       ∷ closed (closed_state 7) ∷ refused Foreign ∷ refused Foreign ∷ refused Foreign ∷ refused BufferTooShort ∷ []
       )

@@ -1,6 +1,5 @@
 -- The line of unfinished tasks.
-use Rattle.std.specs.Prelude.{ℕ, Bool, true, false, cond, ◌||◌, List, [], ◌∷◌, ◌++◌, ◌==◌}
-use Rattle.std.proofs.Math.Option.{Option, none, some}
+use Rattle.std.specs.Prelude.{ℕ, Bool, true, false, cond, ◌||◌, List, [], ◌∷◌, ◌++◌, Some, None, Option, ◌==◌}
 use Rattle.working.specs.declared.fault.FaultKind.{FaultKind}
 use Rattle.working.specs.Tasks.{Task}
 
@@ -33,8 +32,8 @@ with_status s u = member s.number u s.task
 
 -- the member that is numbered n, and the line with others in its place
 unfoldable pub find : ℕ → List Member → Option Member
-find n [] = none
-find n (s ∷ ss) = cond (s.number == n) (some s) (find n ss)
+find n [] = None
+find n (s ∷ ss) = cond (s.number == n) (Some s) (find n ss)
 
 unfoldable pub replace : ℕ → List Member → List Member → List Member
 replace n new [] = []

@@ -1,6 +1,5 @@
 -- The whole promise: whatever calls a bench has seen, it goes on, and it comes to what serial working comes to.
-use Rattle.std.specs.Prelude.{◌≡◌, ℕ, ◌<◌, ◌≤◌, Bool, true, false, ◌⊎◌, ◌↔◌, List, [], ◌∷◌, ◌++◌, length}
-use Rattle.std.proofs.Math.Option.{none, some}
+use Rattle.std.specs.Prelude.{◌≡◌, ℕ, ◌<◌, ◌≤◌, Bool, true, false, ◌⊎◌, ◌↔◌, List, [], ◌∷◌, ◌++◌, length, Some, None}
 use Rattle.kinds.specs.Kinds.{Kind, Lawful}
 use Rattle.cards.specs.Code.{Card}
 use Rattle.cards.specs.Bounds.{card_steps, card_tasks}
@@ -25,8 +24,8 @@ use Rattle.runs.specs.WorkOffs.{WorksOff, WorkOffAnswers}
 -- Serial working ends within the card's bounds, and the function and the relation say the same.
 pub record SerialSound (k : Kind) (c : Card) : Type 0 where
   pub result : Result
-  pub worked : serially k c ≡ some result
-  pub agree : (r : Result) → (serially k c ≡ some r) ↔ Serially k c r
+  pub worked : serially k c ≡ Some result
+  pub agree : (r : Result) → (serially k c ≡ Some r) ↔ Serially k c r
   pub steps_bounded : result.steps ≤ card_steps c
   pub made_bounded : result.made ≤ card_tasks c
 
@@ -67,14 +66,14 @@ Counts (fault f l p) r b = r.steps ≤ b.steps
 -- the outcome is that of serial working, and so is the sheet
 pub record Agrees (k : Kind) (c : Card) (b : Bench) : Type 0 where
   pub serial : Result
-  pub worked : serially k c ≡ some serial
-  pub same : outcome b ≡ some serial.outcome
+  pub worked : serially k c ≡ Some serial
+  pub same : outcome b ≡ Some serial.outcome
   pub counts : Counts serial.outcome serial b
   pub same_sheet : bench_sheet k b ≡ sheet_of k c
 
 -- granted events alone lead from the opened card to b
 abbrev pub Reached : Kind → Card → ℕ → Bench → Type 0
-Reached k c r b = (events : List Event) × (replay k events (opened k c r) ≡ some b)
+Reached k c r b = (events : List Event) × (replay k events (opened k c r) ≡ Some b)
 
 -- a take gives the turn of the task that f chooses from the offer, and that turn is then out
 pub record Takes (k : Kind) (r : ℕ) (f : List ℕ → ℕ) (b : Bench) : Type 0 where
@@ -131,7 +130,7 @@ pub record Works (k : Kind) (c : Card) (r : ℕ) (S : Type 0) (choice : S → Li
 -- one turn of it: less is left to do, and a work-off is granted from there
 pub record TurnsOn (k : Kind) (c : Card) (r : ℕ) (g : Going) (fs : ℕ → List ℕ → ℕ) (b b₁ : Bench) : Type 0 where
   pub falls : left b₁.line < left b.line
-  pub goes_on : refusal k (work_off g fs) b₁ ≡ none
+  pub goes_on : refusal k (work_off g fs) b₁ ≡ None
   pub reached : Reached k c r b₁
 
 -- the call answers a and leaves b₁ with some choices that keep the law
@@ -139,8 +138,8 @@ abbrev pub IsCall : (k : Kind) → Going → Bench → Answer → Bench → Type
 IsCall k g b a b₁ = (fs : ℕ → List ℕ → ℕ) × ((i : ℕ) → Chooses (fs i)) × (answer k (work_off g fs) b ≡ (a, b₁))
 
 pub record WorksFor (k : Kind) (c : Card) (r : ℕ) (S : Type 0) (choice : S → List ℕ → ℕ) (next : S → List ℕ → S → Type 0) (b : Bench) : Type 0 where
-  pub works : (g : Going) (s : S) → refusal k (work_off g (λ i. choice s)) b ≡ none → Works k c r S choice next s b
-  pub turns_on : (g : Going) (s : S) → refusal k (work_off g (λ i. choice s)) b ≡ none → settled b ≡ false → TurnsOn k c r g (λ i. choice s) b (turned k (choice s) b)
+  pub works : (g : Going) (s : S) → refusal k (work_off g (λ i. choice s)) b ≡ None → Works k c r S choice next s b
+  pub turns_on : (g : Going) (s : S) → refusal k (work_off g (λ i. choice s)) b ≡ None → settled b ≡ false → TurnsOn k c r g (λ i. choice s) b (turned k (choice s) b)
   pub is_call : (g : Going) (s : S) (a : Answer) (s₁ : S) (b₁ : Bench) → WorkOffAnswers k S choice next g s b a s₁ b₁ → IsCall k g b a b₁
 
 -- wherever granted events lead

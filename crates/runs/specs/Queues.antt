@@ -1,6 +1,5 @@
 -- The queue of an object, read off the line: an entry for each task that declares anything on it, in the line's order.
-use Rattle.std.specs.Prelude.{ℕ, zero, suc, Bool, cond, ◌||◌, List, [], ◌∷◌, ◌==◌, slice_index_or}
-use Rattle.std.proofs.Math.Option.{Option, none, some}
+use Rattle.std.specs.Prelude.{ℕ, Bool, cond, ◌||◌, List, [], ◌∷◌, ◌==◌, slice_index_or}
 pub use Rattle.runs.specs.declared.entry.Entry.{Entry}
 use Rattle.working.specs.declared.declared.Declared.{Declared}
 use Rattle.working.specs.Tasks.{nothing, held}
@@ -21,10 +20,3 @@ queue o (s ∷ ss) = cond (declares (on s o)) (record { number = s.number; decla
 unfoldable pub earlier : ℕ → List Entry → List Entry
 earlier n [] = []
 earlier n (e ∷ es) = cond (e.number == n) [] (e ∷ earlier n es)
-
--- the entry at a place, from 0
-unfoldable pub entry_at : ℕ → List Entry → Option Entry
-entry_at zero [] = none
-entry_at (suc i) [] = none
-entry_at zero (e ∷ es) = some e
-entry_at (suc i) (e ∷ es) = entry_at i es

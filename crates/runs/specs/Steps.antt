@@ -1,6 +1,6 @@
 -- How a bench changes: a task gets another status, a task makes a step, the bench is closed.
 use Rattle.std.specs.Prelude.{ℕ, suc, ◌+◌, true, List, [], ◌∷◌}
-use Rattle.std.proofs.Math.Option.{Option-elim}
+use Rattle.std.specs.Option.{option_map_or}
 use Rattle.kinds.specs.Kinds.{Kind}
 use Rattle.working.specs.Requests.{Next, leaves, goes, makes, request, stored, Reply, faulted, stepped, reply}
 use Rattle.working.specs.Serial.{made_by}
@@ -31,10 +31,10 @@ step k b s = after_reply k b s (replied k b s)
 
 -- the same by task number
 unfoldable pub put : ℕ → Status → Bench → Bench
-put n u b = Option-elim (find n b.line) b λ s. marked b s u
+put n u b = option_map_or (λ s. marked b s u) (find n b.line) b
 
 unfoldable pub advanced : Kind → ℕ → Bench → Bench
-advanced k n b = Option-elim (find n b.line) b (step k b)
+advanced k n b = option_map_or (step k b) (find n b.line) b
 
 unfoldable pub shut : Bench → Bench
 shut b = bench b.run b.store b.line b.made b.steps true

@@ -1,6 +1,5 @@
 -- When a call is refused.
-use Rattle.std.specs.Prelude.{ℕ, Bool, true, false, cond, not, ◌&&◌, List, [], ◌∷◌, length, ◌==◌, nat_le}
-use Rattle.std.proofs.Math.Option.{Option, none, some}
+use Rattle.std.specs.Prelude.{ℕ, Bool, true, false, cond, not, ◌&&◌, List, [], ◌∷◌, length, Some, None, Option, ◌==◌, nat_le}
 use Rattle.kinds.specs.Kinds.{Kind}
 use Rattle.runs.specs.Lines.{any_out}
 use Rattle.runs.specs.Benches.{Bench, offer}
@@ -30,8 +29,8 @@ fits (sheet z buffer) b = fits_closed z b
 
 -- r unless the test holds
 unfoldable pub unless : Bool → Refusal → Option Refusal
-unless true r = none
-unless false r = some r
+unless true r = None
+unless false r = Some r
 
 unfoldable pub not_empty : List ℕ → Bool
 not_empty [] = false
@@ -43,13 +42,13 @@ too_long text buffer = unless (nat_le (length text) (length buffer)) BufferTooSh
 -- the refusals besides the foreign ones
 unfoldable pub own_refusal : Kind → Call → Bench → Option Refusal
 own_refusal k (take g f) b = unless (not_empty (offer b)) NothingToOffer
-own_refusal k (perform t) b = none
-own_refusal k (hand_back t) b = none
-own_refusal k (look o i) b = none
+own_refusal k (perform t) b = None
+own_refusal k (hand_back t) b = None
+own_refusal k (look o i) b = None
 own_refusal k (work_off g fs) b = unless (not (any_out b.line)) Unsettled
 own_refusal k (close g) b = unless (can_close b) Unsettled
 own_refusal k (sheet z buffer) b = too_long (bench_sheet k b) buffer
 
 -- a foreign state or turn is refused first
 unfoldable pub refusal : Kind → Call → Bench → Option Refusal
-refusal k x b = cond (fits x b) (own_refusal k x b) (some Foreign)
+refusal k x b = cond (fits x b) (own_refusal k x b) (Some Foreign)

@@ -1,7 +1,6 @@
 -- Working off under a scheduler whose states are its own.
 -- In a state of S, choice is what it chooses, and next says which states may follow a pick from a list.
-use Rattle.std.specs.Prelude.{◌≡◌, ℕ, true, false, List}
-use Rattle.std.proofs.Math.Option.{Option, none, some}
+use Rattle.std.specs.Prelude.{◌≡◌, ℕ, true, false, List, Some, None, Option}
 use Rattle.kinds.specs.Kinds.{Kind}
 use Rattle.runs.specs.Benches.{Bench, offer, settled}
 use Rattle.runs.specs.Refusals.{Refusal}
@@ -16,8 +15,8 @@ pub data WorksOff (k : Kind) (S : Type 0) (choice : S → List ℕ → ℕ) (nex
 
 -- what a work-off from state s answers, and the state and the bench that it leaves
 abbrev pub ByRefusal : (k : Kind) (S : Type 0) → (S → List ℕ → ℕ) → (S → List ℕ → S → Type 0) → Option Refusal → Going → S → Bench → Answer → S → Bench → Type 0
-ByRefusal k S choice next (some r) g s b a s₁ b₁ = (a ≡ refused r) × (s₁ ≡ s) × (b₁ ≡ b)
-ByRefusal k S choice next none g s b a s₁ b₁ = (a ≡ going g) × WorksOff k S choice next s b s₁ b₁
+ByRefusal k S choice next (Some r) g s b a s₁ b₁ = (a ≡ refused r) × (s₁ ≡ s) × (b₁ ≡ b)
+ByRefusal k S choice next None g s b a s₁ b₁ = (a ≡ going g) × WorksOff k S choice next s b s₁ b₁
 
 abbrev pub WorkOffAnswers : (k : Kind) (S : Type 0) → (S → List ℕ → ℕ) → (S → List ℕ → S → Type 0) → Going → S → Bench → Answer → S → Bench → Type 0
 WorkOffAnswers k S choice next g s b a s₁ b₁ = ByRefusal k S choice next (refusal k (work_off g (λ i. choice s)) b) g s b a s₁ b₁

@@ -3,22 +3,16 @@ ghost use Rattle.runs.specs.Examples.{WorkedExamples};
 ghost use Rattle.runs.specs.Promise.{WholePromise, WorkOffsEnd};
 
 // Whatever turns are taken, performed and handed back, a run comes to what serial working comes to.
-pub fn runs_agree() -> u8
+pub fn runs_agree()
     ensures { WholePromise }
-{
-    0
-}
+{}
 
 // Working off under any scheduler with states S ends where the bench can close.
-pub fn work_offs_end<S>() -> u8
+pub fn work_offs_end<S>()
     ensures { WorkOffsEnd S }
-{
-    0
-}
+{}
 
 // Runs that are worked out on the definitions.
-pub fn examples() -> u8
+pub fn examples()
     ensures { WorkedExamples }
-{
-    0
-}
+{}

@@ -1,5 +1,5 @@
 // The refusals of a bench's calls.
-#[derive(Clone, Copy)]
+#[derive(Clone, Copy, Debug, PartialEq, Eq)]
 pub enum Refusal {
     NothingToOffer,
     Foreign,

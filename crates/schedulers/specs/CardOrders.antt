@@ -1,8 +1,11 @@
 -- The order that a card names, as a state that each pick carries on.
-use Rattle.std.specs.Prelude.{ℕ, List}
+use Rattle.std.specs.Prelude.{ℕ, ◌<◌, List, ◌∷◌, length}
+use Rattle.std.proofs.Common.{arith}
 use Rattle.cards.specs.declared.lines.OrderName.{OrderName}
 use Rattle.cards.specs.declared.lines.OrderName.TheVariants as Name
 use Rattle.schedulers.specs.Schedulers as scheduler
+use Rattle.schedulers.specs.Fronts.{narrow_inside}
+use Rattle.schedulers.specs.Rounds.{turns_inside}
 use Rattle.schedulers.specs.declared.card_order.CardOrder.{CardOrder}
 use Rattle.schedulers.specs.declared.card_order.CardOrder.TheVariants.{First, Last, Turns, Narrow}
 
@@ -40,3 +43,10 @@ state (First s) = first
 state (Last s) = last
 state (Turns s) = turns s.k
 state (Narrow s) = narrow s.width
+
+-- what an order chooses from a list that is not empty is a place in it
+pub chosen_inside : (s : CardOrder) (x : ℕ) (xs : List ℕ) → chosen (state s) (x ∷ xs) < length (x ∷ xs)
+chosen_inside (First s) x xs = omega arith
+chosen_inside (Last s) x xs = omega arith
+chosen_inside (Turns s) x xs = turns_inside s.k x xs
+chosen_inside (Narrow s) x xs = narrow_inside scheduler.last s.width x xs (λ y ys. omega arith) s.some

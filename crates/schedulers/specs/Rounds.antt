@@ -1,7 +1,11 @@
 -- Counting up from k meets first the number that is least far ahead of k. Assumes nothing.
-use Rattle.std.specs.Prelude.{◌≡◌, ℕ, zero, suc, ◌+◌, ◌-◌, ◌%◌, ◌<◌, ◌≤◌, min, ◌⊎◌, List, [], ◌∷◌, length, ◌≢◌, slice_index, slice_index_or}
-use Rattle.std.proofs.Common.{ap, ◌∙◌, inl, inr, arith, below_more}
-use Rattle.std.proofs.lemmas.Bool.{cases_lt}
+use Rattle.std.specs.Prelude.{◌≡◌, ℕ, zero, suc, ◌+◌, ◌-◌, ◌%◌, ◌<◌, ◌≤◌, min, ◌⊎◌, List, [], ◌∷◌, length, ◌≢◌, slice_index, slice_index_or, filter, nat_lt, All, Contains, ◌==◌, position, Some}
+use Rattle.std.specs.List.{position_or_len}
+use Rattle.std.proofs.lemmas.List.Recursion.{is_position_or_len}
+use Rattle.std.proofs.Common.{refl, ap, ◌∙◌, inl, inr, arith, below_more}
+use Rattle.std.proofs.lemmas.Bool.{cases_lt, lt-ltb, le-ltb}
+use Rattle.std.proofs.lemmas.List.{get_or_default}
+use Rattle.std.proofs.lemmas.List.Elements.{All-nil, All-head, All-tail, All-same}
 use Rattle.std.proofs.lemmas.Bool.Decides.{nat_tests}
 use Rattle.schedulers.specs.Schedulers.{place_of, up, met, turns}
 
@@ -12,6 +16,10 @@ met_inside zero k xs some = some
 met_inside (suc more) k xs some =
     let ih : met more (up k) xs < length xs = met_inside more (up k) xs some in
     grind (arith, nat_tests)
+
+-- the choice of turns from a list that is not empty
+pub turns_inside : (k x : ℕ) (xs : List ℕ) → turns k (x ∷ xs) < length (x ∷ xs)
+turns_inside k x xs = met_inside 64 k (x ∷ xs) (omega arith)
 
 -- where a search for n that passed r places stops
 pub place_is : (n : ℕ) (xs : List ℕ) (r : ℕ) → r ≤ length xs → ((j : ℕ) → j < r → slice_index xs j ≢ n) → (r < length xs → slice_index xs r ≡ n) → r ≡ place_of n xs
@@ -56,6 +64,10 @@ met_end r k xs ge =
 -- how far n is ahead of k, with both below 64
 abbrev pub ahead : ℕ → ℕ → ℕ
 ahead k n = (n + (64 - k)) % 64
+
+-- the numbers that counting up can meet
+abbrev pub in_round : List ℕ → List ℕ
+in_round xs = filter (λ n. nat_lt n 64) xs
 
 -- none of the first i numbers is nearer than r
 abbrev pub Clear : ℕ → List ℕ → ℕ → ℕ → Type 0
@@ -111,3 +123,41 @@ nearest_offered k xs r small n lt =
     let s = n.some lt in
     let e : slice_index_or xs s.0 0 ≡ (k + r) % 64 = omega (arith, s.2, s.3) in
     place_inside ((k + r) % 64) xs s.0 s.1 e
+
+-- what holds of each number that counting up can meet, at a place of the whole list
+at_kept : (P : ℕ → Type 0) (xs : List ℕ) → All P (in_round xs) → (j : ℕ) → j < length xs → slice_index xs j < 64 → P (slice_index xs j)
+at_kept P [] all j lt low = absurd (omega arith)
+at_kept P (x ∷ xs) all zero lt low = All-head P x (in_round xs) (rw (lt-ltb x 64 low) at all)
+at_kept P (x ∷ xs) all (suc j) lt low = elim (cases_lt x 64) [
+  | inl h ↦ at_kept P xs (All-tail P x (in_round xs) (rw (lt-ltb x 64 h) at all)) j (omega arith) low
+  | inr h ↦ at_kept P xs (rw (le-ltb x 64 h) at all) j (omega arith) low
+]
+
+-- no number can be met
+pub turns_none : (k : ℕ) (xs : List ℕ) → k < 64 → in_round xs ≡ [] → turns k xs ≡ 0
+turns_none k xs small none =
+    let no : All (λ n. ⊥) (in_round xs) = All-same (λ n. ⊥) (in_round xs) [] none (All-nil (λ n. ⊥)) in
+    nearest_skipped k xs 64 small (record {
+      within = omega arith;
+      clear = λ j h l. absurd (at_kept (λ n. ⊥) xs no j h l);
+      some = λ h. absurd (omega arith);
+    }) ∙ met_end 64 _ xs (omega arith)
+
+-- the number that is met is the one that is least far ahead
+pub turns_some : (k n : ℕ) (xs : List ℕ) → k < 64 → n < 64 → Contains xs n → All (λ m. ahead k n ≤ ahead k m) (in_round xs) → (turns k xs ≡ place_of n xs) × (place_of n xs < length xs)
+turns_some k n xs small low there least =
+    let is : (k + ahead k n) % 64 ≡ n = omega arith in
+    let here : slice_index_or xs there.0 0 ≡ n = get_or_default xs there.0 0 n there.1 ∙ there.2 in
+    let near : Nearest k xs (length xs) (ahead k n) = record {
+      within = omega arith;
+      clear = at_kept (λ m. ahead k n ≤ ahead k m) xs least;
+      some = λ h. (there.0, there.1, omega arith, ap (ahead k) here);
+    } in
+    let inside = rw is at (nearest_offered k xs (ahead k n) small near (omega arith)) in
+    (rw is at (nearest_skipped k xs (ahead k n) small near) ∙ met_stop (ahead k n) n xs (omega arith) inside, inside)
+
+-- a number that is there is found at its place
+pub place_found : (n : ℕ) (xs : List ℕ) → place_of n xs < length xs → position (λ m. m == n) xs ≡ Some (place_of n xs)
+place_found n xs inside =
+    let is : place_of n xs ≡ position_or_len (λ m. m == n) xs = is_position_or_len (place_of n) (λ m. m == n) refl (λ y ys. grind (arith, nat_tests)) xs in
+    rw (← is) (rw (lt-ltb (place_of n xs) (length xs) inside) refl)

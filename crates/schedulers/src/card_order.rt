@@ -1,23 +1,17 @@
 // The scheduler that a card names.
-ghost use Rattle.std.specs.Prelude.{◌≡◌, ◌∷◌};
-ghost use Rattle.schedulers.specs.CardOrders.{state, start, chosen, after};
-ghost use Rattle.std.proofs.Common.{arith};
-ghost use Rattle.schedulers.specs.declared.card_order.CardOrder.TheVariants.{First, Last, Turns, Narrow};
-ghost use Rattle.schedulers.specs.Schedulers.{last};
-ghost use Rattle.schedulers.specs.Fronts.{narrow_inside};
-ghost use Rattle.schedulers.specs.Rounds.{met_inside};
+ghost use Rattle.std.specs.Prelude.{◌≡◌};
+ghost use Rattle.schedulers.specs.CardOrders.{state, start, chosen, after, chosen_inside};
 
 use crate::ends::{First, Last};
 use crate::narrow::Narrow;
 use crate::scheduler::Scheduler;
 use crate::turns::Turns;
 use cards::OrderName;
-use std::mem;
 
 // The width of the order that a card names `narrow`.
 const WIDTH: usize = 4;
 
-#[derive(Drop)]
+#[derive(Debug, Drop)]
 pub enum CardOrder {
     First(First),
     Last(Last),
@@ -25,11 +19,11 @@ pub enum CardOrder {
     Narrow(Narrow<Last>),
 }
 
-impl CardOrder {
-    // The named order, before its first pick.
-    pub fn new(name: OrderName) -> CardOrder
-        ensures { state result ≡ start name }
-    {
+// The named order, before its first pick.
+impl From<OrderName> for CardOrder {
+    ghost from_gives = { λ name order. state order ≡ start name };
+
+    fn from(name: OrderName) -> CardOrder {
         match name {
             OrderName::First => CardOrder::First(First),
             OrderName::Last => CardOrder::Last(Last),
@@ -44,22 +38,14 @@ impl Scheduler for CardOrder {
 
     ghost next = { λ s xs t. state t ≡ after (state s) xs };
 
-    ghost inside = { elim [
-      | First s ↦ λ x xs. omega arith
-      | Last s ↦ λ x xs. omega arith
-      | Turns s ↦ λ x xs. met_inside 64 s.k (x ∷ xs) (omega arith)
-      | Narrow s ↦ λ x xs. narrow_inside last s.width x xs (λ y ys. omega arith) s.some
-    ] };
+    ghost inside = { chosen_inside };
 
     fn pick(&mut self, offer: &[u8]) -> Option<usize> {
-        // The order is taken out for the pick, and put back after it.
-        let (place, order) = match mem::replace(self, CardOrder::First(First)) {
-            CardOrder::First(mut s) => (s.pick(offer), CardOrder::First(s)),
-            CardOrder::Last(mut s) => (s.pick(offer), CardOrder::Last(s)),
-            CardOrder::Turns(mut s) => (s.pick(offer), CardOrder::Turns(s)),
-            CardOrder::Narrow(mut s) => (s.pick(offer), CardOrder::Narrow(s)),
-        };
-        *self = order;
-        place
+        match self {
+            CardOrder::First(s) => s.pick(offer),
+            CardOrder::Last(s) => s.pick(offer),
+            CardOrder::Turns(s) => s.pick(offer),
+            CardOrder::Narrow(s) => s.pick(offer),
+        }
     }
 }

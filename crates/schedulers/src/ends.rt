@@ -1,11 +1,12 @@
 // The schedulers that choose an end of the list. They have one state.
+// Two impls: what differs is the choice itself, so one type for both would take its code and its definition as parameters.
 ghost use Rattle.std.specs.Prelude.{◌≡◌};
 ghost use Rattle.schedulers.specs.Schedulers.{first, last};
 ghost use Rattle.std.proofs.Common.{rules};
 
 use crate::scheduler::Scheduler;
 
-#[derive(Clone, Copy)]
+#[derive(Clone, Copy, Debug, PartialEq, Eq)]
 pub struct First;
 
 impl Scheduler for First {
@@ -20,7 +21,7 @@ impl Scheduler for First {
     }
 }
 
-#[derive(Clone, Copy)]
+#[derive(Clone, Copy, Debug, PartialEq, Eq)]
 pub struct Last;
 
 impl Scheduler for Last {

@@ -9,7 +9,7 @@ use crate::scheduler::Scheduler;
 const MOST: usize = 64;
 
 // Offers the first `width` of the list to the scheduler below.
-#[derive(Drop)]
+#[derive(Debug, Drop)]
 pub struct Narrow<S> {
     below: S,
     width: usize,
@@ -31,14 +31,13 @@ impl<S> Narrow<S> {
 }
 
 impl<S: Scheduler> Scheduler for Narrow<S> {
-    ghost choice = { λ s. narrow s.width (S.Scheduler.choice s.below) };
+    ghost choice = { λ s. narrow s.width (S.choice s.below) };
 
-    ghost next = { λ s xs t. (t.width ≡ s.width) × S.Scheduler.next s.below (take s.width xs) t.below };
+    ghost next = { λ s xs t. (t.width ≡ s.width) × S.next s.below (take s.width xs) t.below };
 
-    ghost inside = { λ s x xs. narrow_inside (S.Scheduler.choice s.below) s.width x xs (S.Scheduler.inside s.below) s.some };
+    ghost inside = { λ s x xs. narrow_inside (S.choice s.below) s.width x xs (S.inside s.below) s.some };
 
     fn pick(&mut self, offer: &[u8]) -> Option<usize> {
-        let end = offer.len().min(self.width);
-        self.below.pick(&offer[0..end])
+        self.below.pick(&offer[..self.width.min(offer.len())])
     }
 }

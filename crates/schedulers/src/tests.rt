@@ -47,10 +47,15 @@ fn widths(rt: HostRuntime) {
 #[test]
 fn card_orders(rt: HostRuntime) {
     let offer = [8, 9, 10, 11, 12, 0];
-    picks(&rt, &mut CardOrder::new(OrderName::First), &offer, &[0, 0]);
-    picks(&rt, &mut CardOrder::new(OrderName::Last), &offer, &[5, 5]);
-    picks(&rt, &mut CardOrder::new(OrderName::Turns), &offer, &[5, 0]);
-    picks(&rt, &mut CardOrder::new(OrderName::Narrow), &offer, &[3, 3]);
+    picks(&rt, &mut CardOrder::from(OrderName::First), &offer, &[0, 0]);
+    picks(&rt, &mut CardOrder::from(OrderName::Last), &offer, &[5, 5]);
+    picks(&rt, &mut CardOrder::from(OrderName::Turns), &offer, &[5, 0]);
+    picks(
+        &rt,
+        &mut CardOrder::from(OrderName::Narrow),
+        &offer,
+        &[3, 3],
+    );
 }
 
 // Chooses the middle of the list, and promises nothing about its states.
@@ -78,10 +83,7 @@ impl Scheduler for Middle {
 
 // What any scheduler picks is a place of the offer.
 fn number<S: Scheduler>(s: &mut S, offer: &[u8]) -> Option<u8> {
-    match s.pick(offer) {
-        Some(place) => Some(offer[place]),
-        None => None,
-    }
+    Some(offer[s.pick(offer)?])
 }
 
 #[test]

@@ -1,8 +1,7 @@
 // The scheduler that goes round the task numbers.
-ghost use Rattle.std.specs.Prelude.{◌≡◌, ◌+◌, ◌-◌, ◌%◌, ◌<◌, ◌≤◌, ◌∷◌, length};
-ghost use Rattle.schedulers.specs.Schedulers.{place_of, met, turns, turns_next};
-ghost use Rattle.std.proofs.Common.{arith};
-ghost use Rattle.schedulers.specs.Rounds.{met_inside};
+ghost use Rattle.std.specs.Prelude.{◌≡◌, ◌<◌, ◌≤◌, [], All, Contains, IfNone, IfSome, unwrap_or};
+ghost use Rattle.schedulers.specs.Schedulers.{turns, turns_next};
+ghost use Rattle.schedulers.specs.Rounds.{turns_inside, in_round, ahead};
 
 use crate::scheduler::Scheduler;
 
@@ -10,7 +9,7 @@ use crate::scheduler::Scheduler;
 const ROUND: u8 = 64;
 
 // Chooses the first offered number met in counting up from `k`, and then counts from one further.
-#[derive(Drop)]
+#[derive(Debug, Drop)]
 pub struct Turns {
     k: u8,
     ghost small: { k < 64 },
@@ -22,49 +21,27 @@ impl Turns {
     {
         Turns { k: 0 }
     }
-}
 
-// How far ahead of `k` the nearest offered number is; `ROUND` if there is none below it.
-fn nearest(offer: &[u8], k: u8) -> u8
-    requires { k < 64 }
-    ensures within { result ≤ 64 }
-    ensures skipped { turns k offer.now ≡ met (64 - result) ((k + result) % 64) offer.now }
-    ensures offered { result < 64 → place_of ((k + result) % 64) offer.now < length offer.now }
-{
-    let mut least = ROUND;
-    for n in offer {
-        let ahead = if *n < ROUND {
-            n.wrapping_sub(k) % ROUND
-        } else {
-            ROUND
-        };
-        least = least.min(ahead);
+    // The offered number that counting up from `k` meets first, found without counting.
+    fn nearest(&self, offer: &[u8]) -> Option<u8>
+        ensures none { IfNone result (in_round offer.now ≡ []) }
+        ensures below { IfSome result (λ n. n < 64) }
+        ensures offered { IfSome result (Contains offer.now) }
+        ensures least { IfSome result (λ n. All (λ m. ahead self.now.k n ≤ ahead self.now.k m) (in_round offer.now)) }
+    {
+        offer
+            .iter()
+            .copied()
+            .filter(|n| *n < ROUND)
+            .min_by_key(|n| n.wrapping_sub(self.k) % ROUND)
     }
-    least
-}
 
-// The earliest place of `number`, or the length.
-fn find(offer: &[u8], number: u8) -> usize
-    ensures { result ≡ place_of number offer.now }
-{
-    for (i, n) in offer.iter().enumerate() {
-        if *n == number {
-            return i;
-        }
-    }
-    offer.len()
-}
-
-// The earliest place of the number that counting up from `k` meets first, found without counting.
-fn meet(offer: &[u8], k: u8) -> usize
-    requires { k < 64 }
-    ensures { result ≡ turns k offer.now }
-{
-    let ahead = nearest(offer, k);
-    if ahead < ROUND {
-        find(offer, (k + ahead) % ROUND)
-    } else {
-        0
+    // The earliest place of that number.
+    fn meet(&self, offer: &[u8]) -> Option<usize>
+        ensures { unwrap_or result 0 ≡ turns self.now.k offer.now }
+    {
+        let number = self.nearest(offer)?;
+        offer.iter().position(|n| *n == number)
     }
 }
 
@@ -73,13 +50,13 @@ impl Scheduler for Turns {
 
     ghost next = { λ s xs t. t.k ≡ turns_next s.k xs };
 
-    ghost inside = { λ s x xs. met_inside 64 s.k (x ∷ xs) (omega arith) };
+    ghost inside = { λ s. turns_inside s.k };
 
     fn pick(&mut self, offer: &[u8]) -> Option<usize> {
         if offer.is_empty() {
             return None;
         }
-        let place = meet(offer, self.k);
+        let place = self.meet(offer).unwrap_or(0);
         self.k = (self.k + 1) % ROUND;
         Some(place)
     }

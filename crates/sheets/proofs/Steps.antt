@@ -38,7 +38,3 @@ stopped {u = u} {v = v} {s = s} {r = r} t e failed a =
       capacity = a.capacity;
       succeeds = λ h. absurd (let z : false ≡ true = a.succeeds (omega (arith, length-append s t)) in let y : ◌≡◌ {A = ℕ} 0 1 = cc in omega arith);
     }
-
--- the same text, written otherwise
-pub whole_is : {u v : Vec ℕ Global} {s whole : List ℕ} {r : Result (Unit {0}) AllocError} → whole ≡ s → Appends u v s r → Appends u v whole r
-whole_is e a = rw e a

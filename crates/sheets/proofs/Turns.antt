@@ -3,7 +3,8 @@ use Rattle.std.proofs.Common.{◌≡◌, ℕ, List, [], ◌++◌, Ok, Result, Ve
 use Rattle.std.specs.declared.alloc.AllocError.{AllocError}
 use Rattle.std.specs.declared.alloc.Global.{Global}
 use Rattle.sheets.specs.Appends.{Appends}
-use Rattle.sheets.proofs.Steps.{nothing, then}
+use Rattle.sheets.proofs.Lines.{line_then}
+use Rattle.sheets.proofs.Steps.{nothing, then, stopped}
 
 -- all of the whole text but the rest was appended
 pub record Left (u v : Vec ℕ Global) (whole rest : List ℕ) : Type 0 where
@@ -24,3 +25,6 @@ onward {t = t} rest' e l a =
 
 pub finish : {u v w : Vec ℕ Global} {whole t : List ℕ} {r : Result (Unit {0}) AllocError} → Left u v whole t → Appends v w t r → Appends u w whole r
 finish l a = then l.parts l.appends a
+
+-- what the check tries where a text is appended part by part
+pub ruleset appends = (then, stopped, line_then, begin, onward, finish)

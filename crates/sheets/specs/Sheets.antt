@@ -1,6 +1,5 @@
 -- The three sheets, byte for byte. A head's number counts its lines.
-use Rattle.std.specs.Prelude.{ℕ, List, [], ◌∷◌, ◌++◌, length, codes, decimal}
-use Rattle.std.proofs.Math.Option.{Option, none, some}
+use Rattle.std.specs.Prelude.{ℕ, List, [], ◌∷◌, ◌++◌, length, Some, None, codes, decimal, Option}
 use Prim.Native.String.{String}
 use Rattle.std.specs.Fmt.{signed_decimal}
 use Rattle.kinds.specs.Kinds.{Kind}
@@ -46,8 +45,8 @@ outcome_sheet k made steps (words ws) = run_sheet k made steps ws
 outcome_sheet k made steps (fault f l p) = fault_sheet f l p
 
 unfoldable pub result_sheet : Kind → Option Result → List ℕ
-result_sheet k none = []
-result_sheet k (some r) = outcome_sheet k r.made r.steps r.outcome
+result_sheet k None = []
+result_sheet k (Some r) = outcome_sheet k r.made r.steps r.outcome
 
 -- the sheet of a card, by serial working alone
 unfoldable pub sheet_of : Kind → Card → List ℕ

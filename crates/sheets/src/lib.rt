@@ -10,9 +10,10 @@ ghost use Rattle.std.specs.Prelude.{◌≡◌, ◌≤◌, length, IfOk};
 ghost use Rattle.sheets.specs.Appends.{Appends};
 ghost use Rattle.sheets.specs.Sheets.{fault_name, fault_sheet, refused_sheet, run_sheet};
 
+use itoa::Buffer;
 use kinds::ValueKind;
 use std::alloc::{AllocError, Global};
-use working::FaultKind;
+use working::{Fault, FaultKind};
 
 mod append;
 
@@ -34,17 +35,12 @@ pub fn run_sheet<K: ValueKind>(
     Ok(out)
 }
 
-// A fault, at a line of the card, of the task at a place, which is the ranks below main.
-pub fn fault_sheet(
-    heap: Global,
-    kind: FaultKind,
-    line: u32,
-    place: &[u8],
-) -> Result<Vec<u8>, AllocError>
-    ensures { IfOk result (λ v. v.items ≡ fault_sheet kind line place.now) }
+// A fault of the task at a place, which is the ranks below main.
+pub fn fault_sheet(heap: Global, fault: Fault, place: &[u8]) -> Result<Vec<u8>, AllocError>
+    ensures { IfOk result (λ v. v.items ≡ fault_sheet fault.kind fault.line place.now) }
 {
     let mut out = Vec::new(heap);
-    append_fault(&mut out, kind, line, place)?;
+    append_fault(&mut out, fault, place)?;
     Ok(out)
 }
 
@@ -52,12 +48,12 @@ pub fn fault_sheet(
 pub fn refused_sheet(heap: Global, number: u32, line: u32, word: u32) -> Result<Vec<u8>, AllocError>
     ensures { IfOk result (λ v. v.items ≡ refused_sheet number line word) }
 {
-    let mut out = Vec::new(heap);
-    append_refused(&mut out, number, line, word)?;
-    Ok(out)
+    let sheet = format!(in heap; "refused 3\nnumber {number}\nline {line}\nword {word}\n")?;
+    Ok(sheet.into_bytes())
 }
 
 // Appends what `run_sheet` makes: at most `LONGEST` bytes for at most 16 words. It never fails if there is room.
+#[tactic(auto, using(crate::proofs::Turns::appends))]
 pub fn append_run<K: ValueKind>(
     out: &mut Vec<u8>,
     kind: &K,
@@ -68,46 +64,35 @@ pub fn append_run<K: ValueKind>(
     ensures appends { Appends out.old out.new (run_sheet (K.ValueKind.kind kind.now) made steps words.now) result }
     ensures short { length words.now ≤ 16 → length (run_sheet (K.ValueKind.kind kind.now) made steps words.now) ≤ 512 }
 {
-    append::line(out, b"run", b"2")?;
-    append::count(out, b"tasks", u64::from(made))?;
-    append::count(out, b"steps", u64::from(steps))?;
-    append::count(out, b"objects", words.len() as u64)?;
+    let mut digits = Buffer::new();
+    append::line(out, "run", "2")?;
+    append::line(out, "tasks", digits.format(made))?;
+    append::line(out, "steps", digits.format(steps))?;
+    append::line(out, "objects", digits.format(words.len()))?;
     append::numbers(out, kind, words)
 }
 
 // Appends what `fault_sheet` makes: at most `LONGEST` bytes for at most 8 ranks. It never fails if there is room.
-pub fn append_fault(
-    out: &mut Vec<u8>,
-    kind: FaultKind,
-    line: u32,
-    place: &[u8],
-) -> Result<(), AllocError>
-    ensures appends { Appends out.old out.new (fault_sheet kind line place.now) result }
-    ensures short { length place.now ≤ 8 → length (fault_sheet kind line place.now) ≤ 512 }
+#[tactic(auto, using(crate::proofs::Turns::appends, crate::proofs::Sizes::length_fault))]
+pub fn append_fault(out: &mut Vec<u8>, fault: Fault, place: &[u8]) -> Result<(), AllocError>
+    ensures appends { Appends out.old out.new (fault_sheet fault.kind fault.line place.now) result }
+    ensures short { length place.now ≤ 8 → length (fault_sheet fault.kind fault.line place.now) ≤ 512 }
 {
-    append::line(out, b"fault", b"3")?;
-    append::line(out, b"kind", fault_name(kind))?;
-    append::count(out, b"line", u64::from(line))?;
+    append::line(out, "fault", "3")?;
+    append::line(out, "kind", fault_name(fault.kind))?;
+    append::line(out, "line", Buffer::new().format(fault.line))?;
     append::task(out, place)
 }
 
-fn append_refused(out: &mut Vec<u8>, number: u32, line: u32, word: u32) -> Result<(), AllocError>
-    ensures { Appends out.old out.new (refused_sheet number line word) result }
-{
-    append::line(out, b"refused", b"3")?;
-    append::count(out, b"number", u64::from(number))?;
-    append::count(out, b"line", u64::from(line))?;
-    append::count(out, b"word", u64::from(word))
-}
-
-fn fault_name(kind: FaultKind) -> &'static [u8]
+// The word of a fault's line. A text and no `Display`, since a line appends a text (`append.rt` says why).
+fn fault_name(kind: FaultKind) -> &'static str
     ensures { result.now ≡ fault_name kind }
 {
     match kind {
-        FaultKind::Read => b"read",
-        FaultKind::Write => b"write",
-        FaultKind::Join => b"join",
-        FaultKind::Declare => b"declare",
+        FaultKind::Read => "read",
+        FaultKind::Write => "write",
+        FaultKind::Join => "join",
+        FaultKind::Declare => "declare",
     }
 }
 
@@ -126,16 +111,20 @@ mod tests {
         Ok(())
     }
 
+    fn at_20(kind: FaultKind) -> Fault {
+        Fault { kind, line: 20 }
+    }
+
     #[test]
     fn fault_of_main(rt: HostRuntime) -> Result<(), Fail> {
         let heap = rt.alloc();
-        let read = fault_sheet(heap, FaultKind::Read, 20, &[])?;
+        let read = fault_sheet(heap, at_20(FaultKind::Read), &[])?;
         assert!(rt; read.as_slice() == b"fault 3\nkind read\nline 20\ntask main\n".as_slice());
-        let write = fault_sheet(heap, FaultKind::Write, 20, &[])?;
+        let write = fault_sheet(heap, at_20(FaultKind::Write), &[])?;
         assert!(rt; write.as_slice() == b"fault 3\nkind write\nline 20\ntask main\n".as_slice());
-        let join = fault_sheet(heap, FaultKind::Join, 20, &[])?;
+        let join = fault_sheet(heap, at_20(FaultKind::Join), &[])?;
         assert!(rt; join.as_slice() == b"fault 3\nkind join\nline 20\ntask main\n".as_slice());
-        let declare = fault_sheet(heap, FaultKind::Declare, 20, &[])?;
+        let declare = fault_sheet(heap, at_20(FaultKind::Declare), &[])?;
         assert!(rt;
             declare.as_slice() == b"fault 3\nkind declare\nline 20\ntask main\n".as_slice()
         );
@@ -146,19 +135,19 @@ mod tests {
     fn fault_of_a_child(rt: HostRuntime) -> Result<(), Fail> {
         let heap = rt.alloc();
         let place = [1, 12, 63];
-        let read = fault_sheet(heap, FaultKind::Read, 20, &place)?;
+        let read = fault_sheet(heap, at_20(FaultKind::Read), &place)?;
         assert!(rt;
             read.as_slice() == b"fault 3\nkind read\nline 20\ntask main.1.12.63\n".as_slice()
         );
-        let write = fault_sheet(heap, FaultKind::Write, 20, &place)?;
+        let write = fault_sheet(heap, at_20(FaultKind::Write), &place)?;
         assert!(rt;
             write.as_slice() == b"fault 3\nkind write\nline 20\ntask main.1.12.63\n".as_slice()
         );
-        let join = fault_sheet(heap, FaultKind::Join, 20, &place)?;
+        let join = fault_sheet(heap, at_20(FaultKind::Join), &place)?;
         assert!(rt;
             join.as_slice() == b"fault 3\nkind join\nline 20\ntask main.1.12.63\n".as_slice()
         );
-        let declare = fault_sheet(heap, FaultKind::Declare, 20, &place)?;
+        let declare = fault_sheet(heap, at_20(FaultKind::Declare), &place)?;
         assert!(rt;
             declare.as_slice() == b"fault 3\nkind declare\nline 20\ntask main.1.12.63\n".as_slice()
         );

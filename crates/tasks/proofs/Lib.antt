@@ -1,4 +1,3 @@
-pub mod Backs
 pub mod Numbered
 pub mod Rooms
 pub mod Arms

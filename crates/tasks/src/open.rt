@@ -32,8 +32,7 @@ impl<'c> Tasks<'c> {
     {
         let mut tasks = Tasks {
             store: starting_words(heap, kind, card)?,
-            records: Vec::with_capacity(heap, 64)?,
-            works: Vec::with_capacity(heap, 64)?,
+            tasks: Vec::with_capacity(heap, 64)?,
             spare: room(heap)?,
         };
         tasks.add(Record::main(kind, card), Fresh::main(card));

@@ -7,14 +7,7 @@ ghost use Rattle.working.specs.Works.{ranks_of};
 ghost use Rattle.tasks.specs.Views.{store_of, tasks_of, declared_by};
 
 use crate::tasks::Tasks;
-use cards::Level;
 use working::{Declared, Place};
-
-const NOTHING: Declared = Declared {
-    reads: Level::Absent,
-    writes: Level::Absent,
-    commutes: Level::Absent,
-};
 
 impl<'c> Tasks<'c> {
     // How many tasks were made.
@@ -22,7 +15,7 @@ impl<'c> Tasks<'c> {
         ensures number { result ≡ length (tasks_of self.now) }
         ensures most { result ≤ 64 }
     {
-        self.records.len() as u8
+        self.tasks.len() as u8
     }
 
     // The word in each object.
@@ -36,22 +29,16 @@ impl<'c> Tasks<'c> {
     pub fn place(&self, n: u8) -> Option<Place>
         ensures { option_map ranks_of result ≡ option_map (λ t. t.place) (slice_get (tasks_of self.now) n) }
     {
-        if (n as usize) < self.works.len() {
-            Some(self.works[n as usize].place())
-        } else {
-            None
-        }
+        Some(self.tasks.get(usize::from(n))?.work.place())
     }
 
     // What a task declares on each object, or nothing where no task has the number.
     pub fn declared(&self, n: u8) -> &[Declared]
         ensures { result.now ≡ declared_by (slice_get (tasks_of self.now) n) }
     {
-        if (n as usize) < self.records.len() {
-            let own = &self.records[n as usize];
-            &own.declared[..own.objects as usize]
-        } else {
-            &[]
+        match self.tasks.get(usize::from(n)) {
+            Some(task) => task.own.declared(),
+            None => &[],
         }
     }
 
@@ -59,11 +46,7 @@ impl<'c> Tasks<'c> {
     pub fn declares(&self, n: u8, object: u8) -> Declared
         ensures { result ≡ slice_index_or (declared_by (slice_get (tasks_of self.now) n)) object nothing }
     {
-        let all = self.declared(n);
-        if (object as usize) < all.len() {
-            all[object as usize]
-        } else {
-            NOTHING
-        }
+        let declared = self.declared(n).get(usize::from(object));
+        declared.copied().unwrap_or(Declared::NOTHING)
     }
 }

@@ -10,13 +10,11 @@ ghost use Rattle.tasks.specs.Moves.{Moves};
 
 use crate::tasks::Tasks;
 use kinds::ValueKind;
-use working::{FaultKind, Fresh, Record, Stepped, Work};
+use working::{Fault, Fresh, Record, Stepped, Task};
 
-// A fault and its line; or the task went on, with other declarations or not, is finished, or made the child of this
-// number.
-#[derive(Clone, Copy)]
+// The task went on, with other declarations or not, is finished, or made the child of this number.
+#[derive(Clone, Copy, Debug, PartialEq, Eq)]
 pub enum Progress {
-    Fault(FaultKind, u32),
     Went,
     Amended,
     Finished,
@@ -26,46 +24,42 @@ pub enum Progress {
 impl<'c> Tasks<'c> {
     // Begins a task under the next number.
     pub(crate) fn add(&mut self, own: Record, fresh: Fresh<'c>) -> u8
-        requires room { suc (vec_len self.old.records + (task_bound (block_of fresh.body.now) + to_make self.old.works.items)) ≤ 64 }
+        requires room { suc (vec_len self.old.tasks + (task_bound (block_of fresh.body.now) + to_make self.old.tasks.items)) ≤ 64 }
         requires sized { own.objects ≡ vec_len self.old.store }
         ensures number { result ≡ length (tasks_of self.old) }
         ensures words { store_of self.new ≡ store_of self.old }
         ensures tasks { tasks_of self.new ≡ tasks_of self.old ++ fresh_task own fresh.entry ∷ [] }
     {
-        let number = self.records.len() as u8;
+        let number = self.tasks.len() as u8;
         let frames = self.spare.pop().unwrap();
-        self.records.push_reserved(own);
-        self.works.push_reserved(Work::begin(fresh, frames));
+        self.tasks.push_reserved(Task::begin(own, fresh, frames));
         number
     }
 
     // One step of the task at an index.
-    fn advance<K: ValueKind>(&mut self, kind: &K, i: usize) -> Stepped<'c>
-        requires { i < vec_len self.old.records }
+    fn advance<K: ValueKind>(&mut self, kind: &K, i: usize) -> Result<Stepped<'c>, Fault>
+        requires { i < vec_len self.old.tasks }
         ensures { Moves (K.ValueKind.kind kind.now) i self.old result self.new }
     {
-        let last = self.works.len() - 1;
-        let mut work = self.works.swap_remove(i);
-        let stepped = self.records[i].step(kind, &mut work, &mut self.store);
-        self.works.push_reserved(work);
-        self.works.swap(i, last);
-        stepped
+        self.tasks[i].step(kind, &mut self.store)
     }
 
     // One step of the task of a number, or none where no task has it.
-    pub fn step<K: ValueKind>(&mut self, kind: &K, n: u8) -> Option<Progress>
+    pub fn step<K: ValueKind>(&mut self, kind: &K, n: u8) -> Option<Result<Progress, Fault>>
         ensures { Steps (K.ValueKind.kind kind.now) n self.old result self.new }
     {
         let i = n as usize;
-        if i >= self.records.len() {
+        if i >= self.tasks.len() {
             return None;
         }
         match self.advance(kind, i) {
-            Stepped::Fault(fault, line) => Some(Progress::Fault(fault, line)),
-            Stepped::Went => Some(Progress::Went),
-            Stepped::Amended => Some(Progress::Amended),
-            Stepped::Finished => Some(Progress::Finished),
-            Stepped::Made(child, fresh) => Some(Progress::Made(self.add(child, fresh))),
+            Err(fault) => Some(Err(fault)),
+            Ok(stepped) => Some(Ok(match stepped {
+                Stepped::Went => Progress::Went,
+                Stepped::Amended => Progress::Amended,
+                Stepped::Finished => Progress::Finished,
+                Stepped::Made(child, fresh) => Progress::Made(self.add(child, fresh)),
+            })),
         }
     }
 }

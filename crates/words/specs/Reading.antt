@@ -1,5 +1,5 @@
 -- What a place of a line is read as, or the word's fault.
-use Rattle.std.specs.Prelude.{ℕ, Bool, cond, List, ℤ, Some, None, Ok, Err, Option, Result}
+use Rattle.std.specs.Prelude.{◌≡◌, ℕ, Bool, cond, List, ℤ, Some, None, Ok, Err, Option, Result}
 use Rattle.std.specs.Str.{bytes_eq}
 use Rattle.cards.specs.declared.names.Local.{Local}
 use Rattle.cards.specs.declared.names.Pointer.{Pointer}
@@ -18,6 +18,11 @@ or_unfit (Some x) p = Ok x
 abbrev pub read_by : {A : Type 0} → (List ℕ → Option A) → Seen → Result A WordFault
 read_by f (word w p) = or_unfit (f w) p
 read_by f (absent p) = Err (Missing p)
+
+-- the same, where R says which readings a word may get
+abbrev pub ReadBy : {A : Type 0} → (List ℕ → Option A → Type 0) → Seen → Result A WordFault → Type 0
+ReadBy {A} R (word w p) r = (o : Option A) × R w o × (r ≡ or_unfit o p)
+ReadBy R (absent p) r = r ≡ Err (Missing p)
 
 unfoldable pub is_word : List ℕ → List ℕ → Bool
 is_word v w = bytes_eq v w

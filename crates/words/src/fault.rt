@@ -2,7 +2,7 @@
 use crate::tokens::Place;
 
 // The first word of a line that is unfit, missing or surplus.
-#[derive(Clone, Copy)]
+#[derive(Clone, Copy, Debug, PartialEq, Eq)]
 pub enum WordFault {
     Unfit(Place),
     Missing(Place),

@@ -12,5 +12,4 @@ mod tokens;
 
 pub use fault::WordFault;
 pub use names::Name;
-pub use reading::same;
 pub use tokens::{Place, Token, Tokens, cut, tokenize};

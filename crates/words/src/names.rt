@@ -2,11 +2,11 @@
 ghost use Rattle.std.specs.Prelude.{◌≡◌};
 ghost use Rattle.words.specs.Names.{name, names_of};
 
-use crate::numbers::{read_number, tail};
+use crate::numbers::read_number;
 use cards::{Local, Pointer};
 
 // One of a task's words, one of its pointers, or an object.
-#[derive(Clone, Copy)]
+#[derive(Clone, Copy, Debug, PartialEq, Eq)]
 pub enum Name {
     Local(Local),
     Pointer(Pointer),
@@ -17,10 +17,7 @@ pub enum Name {
 pub(crate) fn read_name(s: &[u8]) -> Option<Name>
     ensures { names_of result ≡ name s.now }
 {
-    let [first, ..] = s else {
-        return None;
-    };
-    let rest = tail(s);
+    let (first, rest) = s.split_first()?;
     match *first as char {
         'n' => Some(Name::Local(Local {
             n: read_number(rest, 3)? as u8,

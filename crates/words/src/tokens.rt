@@ -1,34 +1,25 @@
 // The words of a line, each a part of the text's bytes.
-ghost use Rattle.std.specs.Prelude.{◌≡◌, true, false, MatchOption};
-ghost use Rattle.words.specs.Cuts.{upto, has, before, after};
+ghost use Rattle.std.specs.Prelude.{◌≡◌, ◌==◌, true, false, MatchOption, position};
+ghost use Rattle.words.specs.Cuts.{has, before, after};
 ghost use Rattle.words.specs.Tokens.{words, seen, place, first_of, others, first, second, third, fourth, left};
 
-// How many bytes stand before the first `mark`.
-fn find(s: &[u8], mark: u8) -> usize
-    ensures { result ≡ upto mark s.now }
+// The index of the first `mark`.
+fn find(s: &[u8], mark: u8) -> Option<usize>
+    ensures { result ≡ position (λ b. b == mark) s.now }
 {
-    for (i, x) in s.iter().enumerate() {
-        if *x == mark {
-            return i;
-        }
-    }
-    s.len()
+    s.iter().position(|b| *b == mark)
 }
 
 // What stands before the first `mark`, and what stands after it.
 pub fn cut<'a>(s: &'a [u8], mark: u8) -> Option<(&'a [u8], &'a [u8])>
     ensures { MatchOption result (has mark s.now ≡ false) (λ p. (has mark s.now ≡ true) × (p.0.now ≡ before mark s.now) × (p.1.now ≡ after mark s.now)) }
 {
-    let i = find(s, mark);
-    if i < s.len() {
-        Some((&s[0..i], &s[i + 1..]))
-    } else {
-        None
-    }
+    let i = find(s, mark)?;
+    Some((&s[..i], &s[i + 1..]))
 }
 
 // A word's place in a text: its line and its number there, both from 1.
-#[derive(Clone, Copy)]
+#[derive(Clone, Copy, Debug, PartialEq, Eq)]
 pub struct Place {
     pub line: u32,
     pub word: u32,
@@ -51,6 +42,7 @@ pub struct Tokens<'a> {
 }
 
 // The next word of what is left of a line, and what is then left.
+#[tactic(auto, using(crate::proofs::Splits::words_has, crate::proofs::Splits::words_none))]
 fn split<'a>(rest: Option<&'a [u8]>, place: Place) -> (Token<'a>, Option<&'a [u8]>)
     ensures token { seen result.0 ≡ first_of (left rest.entry) place }
     ensures rest { left result.1 ≡ others (left rest.entry) }

@@ -18,9 +18,5 @@ task_of_begun u f v e p c =
     ∙ ap (λ (n : ℕ). task_with u (ranks_of v.place) n (block_of f.body.now)) c
     ∙ ap (λ (x : Place). task_with u (ranks_of x) 0 (block_of f.body.now)) p
 
-pub task_of_main : (k : Kind) (c : Card) (r : Record) (w : Work) → MainRecord k c r → work_of w ≡ c.body → ranks_of w.place ≡ [] → w.children ≡ 0 → task_of r w ≡ main k c
-task_of_main k c r w h b p n =
-    ap (λ (x : List ℕ). task_with r x w.children (work_of w)) p
-    ∙ ap (λ (x : ℕ). task_with r [] x (work_of w)) n
-    ∙ ap (λ (x : Block). task_with r [] 0 x) b
-    ∙ h.task
+pub fresh_main : (k : Kind) (c : Card) (r : Record) (f : Fresh) → MainRecord k c r → block_of f.body.now ≡ c.body → ranks_of f.place ≡ [] → fresh_task r f ≡ main k c
+fresh_main k c r f h b p = ap (λ (x : List ℕ). task_with r x 0 (block_of f.body.now)) p ∙ ap (λ (x : Block). task_with r [] 0 x) b ∙ h.task

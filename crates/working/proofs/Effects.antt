@@ -1,5 +1,5 @@
 -- What each statement does.
-use Rattle.std.proofs.Common.{◌≡◌, ℕ, suc, ◌≤◌, Bool, true, false, cond, List, [], ◌∷◌, ◌++◌, get_or, set, ℤ, sym, refl, ap, ◌∙◌, arith, Bor}
+use Rattle.std.proofs.Common.{◌≡◌, ℕ, suc, ◌≤◌, Bool, true, false, cond, List, [], ◌∷◌, ◌++◌, get_or, set, ℤ, sym, refl, ap, ◌∙◌, arith, Bor, Ok, Err}
 use Rattle.kinds.specs.Kinds.{Kind}
 use Rattle.cards.specs.declared.lines.Access.{Access}
 use Rattle.cards.specs.declared.lines.Access.TheVariants.{Rd, Wr, Cm}
@@ -11,7 +11,7 @@ use Rattle.cards.specs.Trees.{block_of}
 use Rattle.working.specs.Tasks.{Declared, Task, is_immediate, level}
 use Rattle.working.specs.Requests.{FaultKind, reading, writing, joining, declaring, Request, Section, refused, accepted, amended, fault, quiet, read, write, join, goes, makes, changed, continued, with_word, with_pointer, word, pointer, child, maker, after_with, after_task, under, statement_request, stored, stepped, reply}
 use Rattle.working.specs.declared.record.Record.{Record}
-use Rattle.working.specs.declared.effect.Effect.TheVariants.{Faults, Passes, Amends, Enters, Repeats, Makes}
+use Rattle.working.specs.declared.effect.Effect.TheVariants.{Passes, Amends, Enters, Repeats, Makes}
 use Rattle.working.specs.Records.{task_with, declared_of, child_section}
 use Rattle.working.specs.Effects.{Did, Does}
 
@@ -53,86 +53,86 @@ unfolding statement_request
 section_is k r l s xs x v e f = λ p c w b. ap (λ (y : Statement). statement_request k (task_with r p c w) l y b) e ∙ ap (after_task (task_with r p c w) x b) f
 
 module _ {k : Kind} {r r' : Record} {m m' : List ℕ} {l : ℕ} {s : Statement} where
-  passes_by : (q : List ℕ → ℕ → Block → Block → Request) → Asks k r l s q → ((p : List ℕ) (c : ℕ) (w b : Block) → reply m (q p c w b) ≡ stepped (goes (task_with r' p c b))) → ((p : List ℕ) (c : ℕ) (w b : Block) → m' ≡ stored k m (q p c w b)) → Does k r m l s Passes r' m'
+  passes_by : (q : List ℕ → ℕ → Block → Block → Request) → Asks k r l s q → ((p : List ℕ) (c : ℕ) (w b : Block) → reply m (q p c w b) ≡ stepped (goes (task_with r' p c b))) → ((p : List ℕ) (c : ℕ) (w b : Block) → m' ≡ stored k m (q p c w b)) → Does k r m l s (Ok Passes) r' m'
   unfolding Did
   passes_by q e f h = record { did = λ p c w b. (ap (reply m) (e p c w b) ∙ f p c w b, h p c w b ∙ ap (stored k m) (sym (e p c w b))) }
 
-  amends_by : Does k r m l s Passes r' m' → Does k r m l s Amends r' m'
+  amends_by : Does k r m l s (Ok Passes) r' m' → Does k r m l s (Ok Amends) r' m'
   unfolding Did
   amends_by d = record { did = d.did }
 
-  faults_by : (f : FaultKind) (n : ℕ) → Asks k r l s (λ p c w b. fault f n) → r' ≡ r → m' ≡ m → Does k r m l s (Faults f n) r' m'
+  faults_by : (f : FaultKind) (n : ℕ) → Asks k r l s (λ p c w b. fault f n) → r' ≡ r → m' ≡ m → Does k r m l s (Err (record { kind = f; line = n })) r' m'
   unfolding Did
   faults_by f n e g h = record { did = λ p c w b. (e p c w b, g, h) }
 
-  sets_word : (i v : ℕ) → Asks k r l s (λ p c w b. quiet (goes (with_word (task_with r p c w) i v b))) → Moved r r' (set r.words i v) r.pointers → m' ≡ m → Does k r m l s Passes r' m'
+  sets_word : (i v : ℕ) → Asks k r l s (λ p c w b. quiet (goes (with_word (task_with r p c w) i v b))) → Moved r r' (set r.words i v) r.pointers → m' ≡ m → Does k r m l s (Ok Passes) r' m'
   unfolding reply stored with_word changed
   sets_word i v e g h = passes_by _ e (λ p c w b. ap (λ (t : Task). stepped (goes t)) (task_is p c b r' _ _ _ g.0 g.1 g.2)) (λ p c w b. h)
 
-  sets_pointer : (i v : ℕ) → Asks k r l s (λ p c w b. quiet (goes (with_pointer (task_with r p c w) i v b))) → Moved r r' r.words (set r.pointers i v) → m' ≡ m → Does k r m l s Passes r' m'
+  sets_pointer : (i v : ℕ) → Asks k r l s (λ p c w b. quiet (goes (with_pointer (task_with r p c w) i v b))) → Moved r r' r.words (set r.pointers i v) → m' ≡ m → Does k r m l s (Ok Passes) r' m'
   unfolding reply stored with_pointer changed
   sets_pointer i v e g h = passes_by _ e (λ p c w b. ap (λ (t : Task). stepped (goes t)) (task_is p c b r' _ _ _ g.0 g.1 g.2)) (λ p c w b. h)
 
-  pub does_set : (i : ℕ) (z : ℤ) (v : ℕ) → s ≡ Statement.set i z → v ≡ k.literal z → Moved r r' (set r.words i v) r.pointers → m' ≡ m → Does k r m l s Passes r' m'
+  pub does_set : (i : ℕ) (z : ℤ) (v : ℕ) → s ≡ Statement.set i z → v ≡ k.literal z → Moved r r' (set r.words i v) r.pointers → m' ≡ m → Does k r m l s (Ok Passes) r' m'
   unfolding statement_request
   does_set i z v e f = sets_word i v (λ p c w b. ap (λ (x : Statement). statement_request k (task_with r p c w) l x b) e ∙ ap (λ (x : ℕ). quiet (goes (with_word (task_with r p c w) i x b))) (sym f))
 
-  pub does_add : (i j : ℕ) (v : ℕ) → s ≡ Statement.add i j → v ≡ k.add (get_or r.words i 0) (get_or r.words j 0) → Moved r r' (set r.words i v) r.pointers → m' ≡ m → Does k r m l s Passes r' m'
+  pub does_add : (i j : ℕ) (v : ℕ) → s ≡ Statement.add i j → v ≡ k.add (get_or r.words i 0) (get_or r.words j 0) → Moved r r' (set r.words i v) r.pointers → m' ≡ m → Does k r m l s (Ok Passes) r' m'
   unfolding statement_request word
   does_add i j v e f = sets_word i v (λ p c w b. ap (λ (x : Statement). statement_request k (task_with r p c w) l x b) e ∙ ap (λ (x : ℕ). quiet (goes (with_word (task_with r p c w) i x b))) (sym f))
 
-  pub does_point : (i o : ℕ) → s ≡ Statement.point i o → Moved r r' r.words (set r.pointers i o) → m' ≡ m → Does k r m l s Passes r' m'
+  pub does_point : (i o : ℕ) → s ≡ Statement.point i o → Moved r r' r.words (set r.pointers i o) → m' ≡ m → Does k r m l s (Ok Passes) r' m'
   unfolding statement_request
   does_point i o e = sets_pointer i o (λ p c w b. ap (λ (x : Statement). statement_request k (task_with r p c w) l x b) e)
 
-  pub does_alias : (i j : ℕ) → s ≡ Statement.alias i j → Moved r r' r.words (set r.pointers i (get_or r.pointers j 0)) → m' ≡ m → Does k r m l s Passes r' m'
+  pub does_alias : (i j : ℕ) → s ≡ Statement.alias i j → Moved r r' r.words (set r.pointers i (get_or r.pointers j 0)) → m' ≡ m → Does k r m l s (Ok Passes) r' m'
   unfolding statement_request pointer
   does_alias i j e = sets_pointer i (get_or r.pointers j 0) (λ p c w b. ap (λ (x : Statement). statement_request k (task_with r p c w) l x b) e)
 
   -- o is the object that the pointer names
 
-  pub does_read : (i j o : ℕ) → s ≡ Statement.read i j → o ≡ get_or r.pointers j 0 → true ≡ is_immediate (level (declared_of r) o Rd) → Moved r r' (set r.words i (get_or m o 0)) r.pointers → m' ≡ m → Does k r m l s Passes r' m'
+  pub does_read : (i j o : ℕ) → s ≡ Statement.read i j → o ≡ get_or r.pointers j 0 → true ≡ is_immediate (level (declared_of r) o Rd) → Moved r r' (set r.words i (get_or m o 0)) r.pointers → m' ≡ m → Does k r m l s (Ok Passes) r' m'
   unfolding statement_request pointer reply stored with_word changed
   does_read i j o e f h g n = passes_by (λ p c w b. read o (λ v. goes (with_word (task_with r p c w) i v b)))
       (λ p c w b. ap (λ (x : Statement). statement_request k (task_with r p c w) l x b) e ∙ ap (λ (x : ℕ). under (task_with r p c w) Rd x (read x (λ v. goes (with_word (task_with r p c w) i v b))) (fault reading l)) (sym f) ∙ under_is (task_with r p c w) Rd o _ _ true h)
       (λ p c w b. ap (λ (t : Task). stepped (goes t)) (task_is p c b r' _ _ _ g.0 g.1 g.2))
       (λ p c w b. n)
 
-  pub does_write : (j i o v : ℕ) → s ≡ Statement.write j i → o ≡ get_or r.pointers j 0 → true ≡ is_immediate (level (declared_of r) o Wr) → v ≡ get_or r.words i 0 → r' ≡ r → m' ≡ set m o v → Does k r m l s Passes r' m'
+  pub does_write : (j i o v : ℕ) → s ≡ Statement.write j i → o ≡ get_or r.pointers j 0 → true ≡ is_immediate (level (declared_of r) o Wr) → v ≡ get_or r.words i 0 → r' ≡ r → m' ≡ set m o v → Does k r m l s (Ok Passes) r' m'
   unfolding statement_request pointer word reply stored continued changed
   does_write j i o v e f h u g n = passes_by (λ p c w b. write o v (goes (continued (task_with r p c w) b)))
       (λ p c w b. ap (λ (x : Statement). statement_request k (task_with r p c w) l x b) e ∙ ap (λ (x : ℕ). under (task_with r p c w) Wr x (write x (get_or r.words i 0) (goes (continued (task_with r p c w) b))) (fault writing l)) (sym f) ∙ under_is (task_with r p c w) Wr o _ _ true h ∙ ap (λ (x : ℕ). write o x (goes (continued (task_with r p c w) b))) (sym u))
       (λ p c w b. ap (λ (x : Record). stepped (goes (task_with x p c b))) (sym g))
       (λ p c w b. n)
 
-  pub does_join : (j i o v u : ℕ) → s ≡ Statement.join j i → o ≡ get_or r.pointers j 0 → true ≡ is_immediate (level (declared_of r) o Cm) → v ≡ get_or r.words i 0 → u ≡ k.join (get_or m o 0) v → r' ≡ r → m' ≡ set m o u → Does k r m l s Passes r' m'
+  pub does_join : (j i o v u : ℕ) → s ≡ Statement.join j i → o ≡ get_or r.pointers j 0 → true ≡ is_immediate (level (declared_of r) o Cm) → v ≡ get_or r.words i 0 → u ≡ k.join (get_or m o 0) v → r' ≡ r → m' ≡ set m o u → Does k r m l s (Ok Passes) r' m'
   unfolding statement_request pointer word reply stored continued changed
   does_join j i o v u e f h d x g n = passes_by (λ p c w b. join o v (goes (continued (task_with r p c w) b)))
       (λ p c w b. ap (λ (y : Statement). statement_request k (task_with r p c w) l y b) e ∙ ap (λ (y : ℕ). under (task_with r p c w) Cm y (join y (get_or r.words i 0) (goes (continued (task_with r p c w) b))) (fault joining l)) (sym f) ∙ under_is (task_with r p c w) Cm o _ _ true h ∙ ap (λ (y : ℕ). join o y (goes (continued (task_with r p c w) b))) (sym d))
       (λ p c w b. ap (λ (y : Record). stepped (goes (task_with y p c b))) (sym g))
       (λ p c w b. n ∙ ap (set m o) x)
 
-  pub fails_read : (i j o : ℕ) → s ≡ Statement.read i j → o ≡ get_or r.pointers j 0 → false ≡ is_immediate (level (declared_of r) o Rd) → r' ≡ r → m' ≡ m → Does k r m l s (Faults reading l) r' m'
+  pub fails_read : (i j o : ℕ) → s ≡ Statement.read i j → o ≡ get_or r.pointers j 0 → false ≡ is_immediate (level (declared_of r) o Rd) → r' ≡ r → m' ≡ m → Does k r m l s (Err (record { kind = reading; line = l })) r' m'
   unfolding statement_request pointer
   fails_read i j o e f h = faults_by reading l (λ p c w b. ap (λ (x : Statement). statement_request k (task_with r p c w) l x b) e ∙ under_is (task_with r p c w) Rd _ _ _ false (h ∙ ap (λ (x : ℕ). is_immediate (level (declared_of r) x Rd)) f))
 
-  pub fails_write : (j i o : ℕ) → s ≡ Statement.write j i → o ≡ get_or r.pointers j 0 → false ≡ is_immediate (level (declared_of r) o Wr) → r' ≡ r → m' ≡ m → Does k r m l s (Faults writing l) r' m'
+  pub fails_write : (j i o : ℕ) → s ≡ Statement.write j i → o ≡ get_or r.pointers j 0 → false ≡ is_immediate (level (declared_of r) o Wr) → r' ≡ r → m' ≡ m → Does k r m l s (Err (record { kind = writing; line = l })) r' m'
   unfolding statement_request pointer
   fails_write j i o e f h = faults_by writing l (λ p c w b. ap (λ (x : Statement). statement_request k (task_with r p c w) l x b) e ∙ under_is (task_with r p c w) Wr _ _ _ false (h ∙ ap (λ (x : ℕ). is_immediate (level (declared_of r) x Wr)) f))
 
-  pub fails_join : (j i o : ℕ) → s ≡ Statement.join j i → o ≡ get_or r.pointers j 0 → false ≡ is_immediate (level (declared_of r) o Cm) → r' ≡ r → m' ≡ m → Does k r m l s (Faults joining l) r' m'
+  pub fails_join : (j i o : ℕ) → s ≡ Statement.join j i → o ≡ get_or r.pointers j 0 → false ≡ is_immediate (level (declared_of r) o Cm) → r' ≡ r → m' ≡ m → Does k r m l s (Err (record { kind = joining; line = l })) r' m'
   unfolding statement_request pointer
   fails_join j i o e f h = faults_by joining l (λ p c w b. ap (λ (x : Statement). statement_request k (task_with r p c w) l x b) e ∙ under_is (task_with r p c w) Cm _ _ _ false (h ∙ ap (λ (x : ℕ). is_immediate (level (declared_of r) x Cm)) f))
 
-  enters_by : (z : Bor tree.Block) → Asks k r l s (λ p c w b. quiet (goes (task_with r' p c (block_of z.now before b)))) → m' ≡ m → Does k r m l s (Enters z) r' m'
+  enters_by : (z : Bor tree.Block) → Asks k r l s (λ p c w b. quiet (goes (task_with r' p c (block_of z.now before b)))) → m' ≡ m → Does k r m l s (Ok (Enters z)) r' m'
   unfolding Did reply stored
   enters_by z q a = record { did = λ p c w b. (ap (reply m) (q p c w b), a ∙ ap (stored k m) (sym (q p c w b))) }
 
-  pub does_if : (i j u v : ℕ) (x : Block) (z : Bor tree.Block) → s ≡ Statement.if i j x → u ≡ get_or r.words i 0 → v ≡ get_or r.words j 0 → true ≡ k.less u v → block_of z.now ≡ x → r' ≡ r → m' ≡ m → Does k r m l s (Enters z) r' m'
+  pub does_if : (i j u v : ℕ) (x : Block) (z : Bor tree.Block) → s ≡ Statement.if i j x → u ≡ get_or r.words i 0 → v ≡ get_or r.words j 0 → true ≡ k.less u v → block_of z.now ≡ x → r' ≡ r → m' ≡ m → Does k r m l s (Ok (Enters z)) r' m'
   unfolding statement_request word
   does_if i j u v x z e d f h n g = enters_by z (arm_is k r r' l s i j u v x end (block_of z.now) true (λ p c w b. ap (λ (o : Statement). statement_request k (task_with r p c w) l o b) e) d f h n g)
 
-  pub skips_if : (i j u v : ℕ) (x : Block) → s ≡ Statement.if i j x → u ≡ get_or r.words i 0 → v ≡ get_or r.words j 0 → false ≡ k.less u v → r' ≡ r → m' ≡ m → Does k r m l s Passes r' m'
+  pub skips_if : (i j u v : ℕ) (x : Block) → s ≡ Statement.if i j x → u ≡ get_or r.words i 0 → v ≡ get_or r.words j 0 → false ≡ k.less u v → r' ≡ r → m' ≡ m → Does k r m l s (Ok Passes) r' m'
   unfolding statement_request word ◌before◌ reply stored
   skips_if i j u v x e d f h g n =
       passes_by (λ p c w b. quiet (goes (task_with r' p c b)))
@@ -140,30 +140,30 @@ module _ {k : Kind} {r r' : Record} {m m' : List ℕ} {l : ℕ} {s : Statement} 
       (λ p c w b. refl)
       (λ p c w b. n)
 
-  pub does_if_else : (i j u v : ℕ) (x y : Block) (z : Bor tree.Block) (t : Bool) → s ≡ Statement.if_else i j x y → u ≡ get_or r.words i 0 → v ≡ get_or r.words j 0 → t ≡ k.less u v → block_of z.now ≡ cond t x y → r' ≡ r → m' ≡ m → Does k r m l s (Enters z) r' m'
+  pub does_if_else : (i j u v : ℕ) (x y : Block) (z : Bor tree.Block) (t : Bool) → s ≡ Statement.if_else i j x y → u ≡ get_or r.words i 0 → v ≡ get_or r.words j 0 → t ≡ k.less u v → block_of z.now ≡ cond t x y → r' ≡ r → m' ≡ m → Does k r m l s (Ok (Enters z)) r' m'
   unfolding statement_request word
   does_if_else i j u v x y z t e d f h n g = enters_by z (arm_is k r r' l s i j u v x y (block_of z.now) t (λ p c w b. ap (λ (o : Statement). statement_request k (task_with r p c w) l o b) e) d f h n g)
 
-  pub does_repeat : (n : ℕ) (z : Bor tree.Block) → s ≡ Statement.repeat n (block_of z.now) → r' ≡ r → m' ≡ m → Does k r m l s (Repeats n z) r' m'
+  pub does_repeat : (n : ℕ) (z : Bor tree.Block) → s ≡ Statement.repeat n (block_of z.now) → r' ≡ r → m' ≡ m → Does k r m l s (Ok (Repeats n z)) r' m'
   unfolding Did
   does_repeat n z e g h = record { did = λ p c w b. (e, g, h) }
 
-  pub does_with : (xs : List Declaration) → s ≡ Statement.with xs → amended r.pointers (declared_of r) xs ≡ accepted (declared_of r') → r'.words ≡ r.words → r'.pointers ≡ r.pointers → m' ≡ m → Does k r m l s Amends r' m'
+  pub does_with : (xs : List Declaration) → s ≡ Statement.with xs → amended r.pointers (declared_of r) xs ≡ accepted (declared_of r') → r'.words ≡ r.words → r'.pointers ≡ r.pointers → m' ≡ m → Does k r m l s (Ok Amends) r' m'
   unfolding statement_request after_with changed reply stored
   does_with xs e f g h n = amends_by (passes_by (λ p c w b. quiet (goes (changed (task_with r p c w) r.words r.pointers (declared_of r') b)))
       (λ p c w b. ap (λ (x : Statement). statement_request k (task_with r p c w) l x b) e ∙ ap (after_with (task_with r p c w) b) f)
       (λ p c w b. ap (λ (t : Task). stepped (goes t)) (task_is p c b r' _ _ _ g h refl))
       (λ p c w b. n))
 
-  pub fails_with : (xs : List Declaration) (n : ℕ) → s ≡ Statement.with xs → amended r.pointers (declared_of r) xs ≡ refused n → r' ≡ r → m' ≡ m → Does k r m l s (Faults declaring n) r' m'
+  pub fails_with : (xs : List Declaration) (n : ℕ) → s ≡ Statement.with xs → amended r.pointers (declared_of r) xs ≡ refused n → r' ≡ r → m' ≡ m → Does k r m l s (Err (record { kind = declaring; line = n })) r' m'
   unfolding statement_request after_with
   fails_with xs n e f = faults_by declaring n (λ p c w b. ap (λ (x : Statement). statement_request k (task_with r p c w) l x b) e ∙ ap (after_with (task_with r p c w) b) f)
 
-  pub fails_task : (xs : List Declaration) (x : Block) (n : ℕ) → s ≡ Statement.task xs x → child_section r xs ≡ refused n → r' ≡ r → m' ≡ m → Does k r m l s (Faults declaring n) r' m'
+  pub fails_task : (xs : List Declaration) (x : Block) (n : ℕ) → s ≡ Statement.task xs x → child_section r xs ≡ refused n → r' ≡ r → m' ≡ m → Does k r m l s (Err (record { kind = declaring; line = n })) r' m'
   unfolding after_task
   fails_task xs x n e f = faults_by declaring n (section_is k r l s xs x (refused n) e f)
 
-  pub does_task : (xs : List Declaration) (x : Block) (u : Record) (z : Bor tree.Block) → s ≡ Statement.task xs x → child_section r xs ≡ accepted (declared_of u) → u.words ≡ r.words → u.pointers ≡ r.pointers → block_of z.now ≡ x → r' ≡ r → m' ≡ m → Does k r m l s (Makes u z) r' m'
+  pub does_task : (xs : List Declaration) (x : Block) (u : Record) (z : Bor tree.Block) → s ≡ Statement.task xs x → child_section r xs ≡ accepted (declared_of u) → u.words ≡ r.words → u.pointers ≡ r.pointers → block_of z.now ≡ x → r' ≡ r → m' ≡ m → Does k r m l s (Ok (Makes u z)) r' m'
   unfolding Did after_task child maker reply stored
   does_task xs x u z e f g h n a d =
       let q : Asks k r l s (λ p c w b. quiet (makes (task_with u (p ++ suc c ∷ []) 0 (block_of z.now)) (task_with r' p (suc c) b))) = λ p c w b.

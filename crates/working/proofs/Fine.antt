@@ -59,9 +59,9 @@ assign_level (d ∷ ds) (suc o) a s zero b = inl refl
 assign_level (d ∷ ds) (suc o) a s (suc p) b = ⊎_elim (λ e. inl e) (λ e. inr (ap suc e.0, e.1)) (assign_level ds o a s p b)
 
 pub not_held : (l : Level) → held l ≡ true → l ≡ Absent → ⊥
-not_held Absent e h = let z : ◌≡◌ {A = ℕ} 0 1 = cc in omega arith
-not_held Deferred e h = let z : ◌≡◌ {A = ℕ} 0 1 = cc in omega arith
-not_held Immediate e h = let z : ◌≡◌ {A = ℕ} 0 1 = cc in omega arith
+not_held Absent e h = cc
+not_held Deferred e h = cc
+not_held Immediate e h = cc
 
 fewer_assign : (ds es : List Declared) (o : ℕ) (a : Access) (s : Level) → Fewer ds es → (level ds o a ≡ Absent → ⊥) → Fewer ds (assign es o a s)
 fewer_assign ds es o a s f h p b e = ⊎_elim (λ q. q ∙ f p b e) (λ q. absurd (h (rw (q.0, q.1) e))) (assign_level es o a s p b)

@@ -1,24 +1,24 @@
 -- One step of serial working over a pile.
-use Rattle.std.proofs.Common.{◌≡◌, ℕ, suc, ◌+◌, ◌<◌, ◌≤◌, List, [], ◌∷◌, ◌++◌, length, sym, refl, ap, ◌∙◌, subst, arith}
+use Rattle.std.proofs.Common.{◌≡◌, ℕ, suc, ◌+◌, ◌<◌, ◌≤◌, List, [], ◌∷◌, ◌++◌, length, sym, refl, ap, ◌∙◌, subst, arith, Ok, Err}
 use Rattle.kinds.specs.Kinds.{Kind}
 use Rattle.cards.specs.Bounds.{step_bound}
 use Rattle.working.specs.Tasks as Tasks
-use Rattle.working.specs.Requests.{FaultKind, Next, leaves, goes, makes, request, stored, stepped, reply}
+use Rattle.working.specs.Requests.{Next, leaves, goes, makes, request, stored, stepped, reply}
 use Rattle.working.specs.Serial.{Result, result, words, fault, segment, made_by, Serial, done, stop, more}
+use Rattle.working.specs.declared.fault.Fault.{Fault}
 use Rattle.working.specs.declared.record.Record.{Record}
-use Rattle.working.specs.declared.work.Work.{Work}
 use Rattle.working.specs.declared.work.Fresh.{Fresh}
-use Rattle.working.specs.declared.step.Stepped.TheVariants.{Fault, Went, Amended, Finished, Made}
-use Rattle.working.specs.declared.pile.Task.{Task}
+use Rattle.working.specs.declared.step.Stepped.TheVariants.{Went, Amended, Finished, Made}
+use Rattle.working.specs.declared.task.Task.{Task}
 use Rattle.working.specs.Works.{ranks_of, work_of}
-use Rattle.working.specs.Steps.{task_of, fresh_task, Answered}
-use Rattle.working.specs.Piles.{model_of, piled}
+use Rattle.working.specs.Steps.{model_of, fresh_task, Answered}
+use Rattle.working.specs.Piles.{piled}
 use Rattle.working.proofs.Fine.{total_steps, total_tasks}
 use Rattle.working.proofs.Serials.{falls, makes_fewer}
 
 -- the tasks on hand, the top first
-abbrev pub line_of : Record → Work → List Task → List Tasks.Task
-line_of r w ts = task_of r w ∷ piled ts []
+abbrev pub line_of : Task → List Task → List Tasks.Task
+line_of t ts = model_of t ∷ piled ts []
 
 -- every record of the pile has at most n objects
 unfoldable pub Small : ℕ → List Task → Type 0
@@ -62,61 +62,61 @@ advance k m m' t ts line' x e f h =
       counts = omega (arith, ap total_tasks h, makes_fewer k m t ts x e);
     }
 
-module _ (k : Kind) (m m' : List ℕ) (r r' : Record) (w w' : Work) (ts : List Task) where
-  pub went : Answered k r w m Went r' w' m' → Advances k m (line_of r w ts) m' (line_of r' w' ts) (goes (task_of r' w'))
+module _ (k : Kind) (m m' : List ℕ) (t t' : Task) (ts : List Task) where
+  pub went : Answered k t m (Ok Went) t' m' → Advances k m (line_of t ts) m' (line_of t' ts) (goes (model_of t'))
   unfolding Answered segment
-  went a = advance k m m' (task_of r w) (piled ts []) (line_of r' w' ts) (goes (task_of r' w')) a.0 a.1 refl
+  went a = advance k m m' (model_of t) (piled ts []) (line_of t' ts) (goes (model_of t')) a.0 a.1 refl
 
-  pub amended : Answered k r w m Amended r' w' m' → Advances k m (line_of r w ts) m' (line_of r' w' ts) (goes (task_of r' w'))
+  pub amended : Answered k t m (Ok Amended) t' m' → Advances k m (line_of t ts) m' (line_of t' ts) (goes (model_of t'))
   unfolding Answered
   amended a = went a
 
   -- the one below goes on
-  pub finished : (us : List Task) (t : Task) → ts ≡ us ++ t ∷ [] → Answered k r w m Finished r' w' m' → Advances k m (line_of r w ts) m' (line_of t.own t.work us) leaves
+  pub finished : (us : List Task) (u : Task) → ts ≡ us ++ u ∷ [] → Answered k t m (Ok Finished) t' m' → Advances k m (line_of t ts) m' (line_of u us) leaves
   unfolding Answered segment
-  finished us t e a = advance k m m' (task_of r w) (piled ts []) (line_of t.own t.work us) leaves a.0 a.1 (sym (ap (λ (l : List Task). piled l []) e ∙ piled_last us t []))
+  finished us u e a = advance k m m' (model_of t) (piled ts []) (line_of u us) leaves a.0 a.1 (sym (ap (λ (l : List Task). piled l []) e ∙ piled_last us u []))
 
-  pub all_finished : ts ≡ [] → (n c : ℕ) → Answered k r w m Finished r' w' m' → Serial k m (line_of r w ts) n c (result (words m') (n + 1) c)
+  pub all_finished : ts ≡ [] → (n c : ℕ) → Answered k t m (Ok Finished) t' m' → Serial k m (line_of t ts) n c (result (words m') (n + 1) c)
   unfolding Answered segment made_by
   all_finished e n c a =
-      let h = advance k m m' (task_of r w) (piled ts []) [] leaves a.0 a.1 (sym (piled_none ts e)) in
+      let h = advance k m m' (model_of t) (piled ts []) [] leaves a.0 a.1 (sym (piled_none ts e)) in
       h.carries n c (result (words m') (n + 1) c) (subst (λ (y : ℕ). Serial k m' [] (n + 1) y (result (words m') (n + 1) c)) (omega arith) done)
 
-  pub faults : (f : FaultKind) (l n c : ℕ) → Answered k r w m (Fault f l) r' w' m' → Serial k m (line_of r w ts) n c (result (fault f l (ranks_of w'.place)) n c)
+  pub faults : (f : Fault) (n c : ℕ) → Answered k t m (Err f) t' m' → Serial k m (line_of t ts) n c (result (fault f.kind f.line (ranks_of t'.work.place)) n c)
   unfolding Answered
-  faults f l n c a = subst (λ (p : List ℕ). Serial k m (line_of r w ts) n c (result (fault f l p) n c)) (sym (ap (λ (t : Tasks.Task). t.place) a.1)) (stop a.0)
+  faults f n c a = subst (λ (p : List ℕ). Serial k m (line_of t ts) n c (result (fault f.kind f.line p) n c)) (sym (ap (λ (y : Tasks.Task). y.place) a.1)) (stop a.0)
 
-  -- the child u begins with work v, and its maker waits on top of the pile
-  pub made : (u : Record) (f : Fresh) (v : Work) (us : List Task) (t : Task) → Answered k r w m (Made u f) r' w' m' → task_of u v ≡ fresh_task u f → us ≡ ts ++ t ∷ [] → model_of t ≡ task_of r' w' → Advances k m (line_of r w ts) m' (line_of u v us) (makes (fresh_task u f) (task_of r' w'))
+  -- the child v begins, and its maker waits on top of the pile
+  pub made : (u : Record) (f : Fresh) (v w : Task) (us : List Task) → Answered k t m (Ok (Made u f)) t' m' → model_of v ≡ fresh_task u f → us ≡ ts ++ w ∷ [] → w ≡ t' → Advances k m (line_of t ts) m' (line_of v us) (makes (fresh_task u f) (model_of t'))
   unfolding Answered segment
-  made u f v us t a h e g =
-      advance k m m' (task_of r w) (piled ts []) (line_of u v us) (makes (fresh_task u f) (task_of r' w')) a.0 a.1
-      (ap (λ (l : List Task). task_of u v ∷ piled l []) e ∙ ap (λ (l : List Tasks.Task). task_of u v ∷ l) (piled_last ts t []) ∙ ap (λ (y : Tasks.Task). task_of u v ∷ y ∷ piled ts []) g ∙ ap (λ (y : Tasks.Task). y ∷ task_of r' w' ∷ piled ts []) h)
+  made u f v w us a h e d =
+      advance k m m' (model_of t) (piled ts []) (line_of v us) (makes (fresh_task u f) (model_of t')) a.0 a.1
+      (ap (λ (l : List Task). model_of v ∷ piled l []) e ∙ ap (λ (l : List Tasks.Task). model_of v ∷ l) (piled_last ts w []) ∙ ap (λ (y : Task). model_of v ∷ model_of y ∷ piled ts []) d ∙ ap (λ (y : Tasks.Task). y ∷ model_of t' ∷ piled ts []) h)
 
 -- The loop, from words m₀ and task t₀: every outcome from here is one from the start, and the bounds are kept.
-pub record Working (k : Kind) (m₀ : List ℕ) (t₀ : Tasks.Task) (m : List ℕ) (r : Record) (w : Work) (ts : List Task) (n c : ℕ) : Type 0 where
-  pub carries : (q : Result) → Serial k m (line_of r w ts) n c q → Serial k m₀ (t₀ ∷ []) 0 1 q
-  pub steps : n + total_steps (line_of r w ts) ≤ 1000000
-  pub tasks : c + total_tasks (line_of r w ts) ≤ 64
-  pub objects : r.objects ≤ length m₀
+pub record Working (k : Kind) (m₀ : List ℕ) (t₀ : Task) (m : List ℕ) (t : Task) (ts : List Task) (n c : ℕ) : Type 0 where
+  pub carries : (q : Result) → Serial k m (line_of t ts) n c q → Serial k m₀ (model_of t₀ ∷ []) 0 1 q
+  pub steps : n + total_steps (line_of t ts) ≤ 1000000
+  pub tasks : c + total_tasks (line_of t ts) ≤ 64
+  pub objects : t.own.objects ≤ length m₀
   pub small : Small (length m₀) ts
 
-pub working_none : {k : Kind} {m : List ℕ} {r : Record} {w : Work} {ts : List Task} → ts ≡ [] → r.objects ≤ length m → step_bound (work_of w) + 1 ≤ 1000000 → Working k m (task_of r w) m r w ts 0 1
+pub working_none : {k : Kind} {m : List ℕ} {t : Task} {ts : List Task} → ts ≡ [] → t.own.objects ≤ length m → step_bound (work_of t.work) + 1 ≤ 1000000 → Working k m t m t ts 0 1
 unfolding total_steps total_tasks
-working_none {k = k} {m = m} {r = r} {w = w} {ts = ts} e o s =
+working_none {k = k} {m = m} {t = t} {ts = ts} e o s =
     let p = piled_none ts e in
     record {
-      carries = λ q h. subst (λ (l : List Tasks.Task). Serial k m (task_of r w ∷ l) 0 1 q) p h;
+      carries = λ q h. subst (λ (l : List Tasks.Task). Serial k m (model_of t ∷ l) 0 1 q) p h;
       steps = omega (arith, ap total_steps p, s);
-      tasks = omega (arith, ap total_tasks p, w.few);
+      tasks = omega (arith, ap total_tasks p, t.work.few);
       objects = o;
       small = small_none _ ts e;
     }
 
-pub working_more : {k : Kind} {m₀ m m' : List ℕ} {t₀ : Tasks.Task} {r r' : Record} {w w' : Work} {ts ts' : List Task} {n c c' : ℕ} {x : Next} → Working k m₀ t₀ m r w ts n c → Advances k m (line_of r w ts) m' (line_of r' w' ts') x → c' ≡ c + made_by x → r'.objects ≤ length m₀ → Small (length m₀) ts' → Working k m₀ t₀ m' r' w' ts' (n + 1) c'
-working_more {k = k} {m' = m'} {r' = r'} {w' = w'} {ts' = ts'} {n = n} {c = c} i a e o s =
+pub working_more : {k : Kind} {m₀ m m' : List ℕ} {t₀ t t' : Task} {ts ts' : List Task} {n c c' : ℕ} {x : Next} → Working k m₀ t₀ m t ts n c → Advances k m (line_of t ts) m' (line_of t' ts') x → c' ≡ c + made_by x → t'.own.objects ≤ length m₀ → Small (length m₀) ts' → Working k m₀ t₀ m' t' ts' (n + 1) c'
+working_more {k = k} {m' = m'} {t' = t'} {ts' = ts'} {n = n} {c = c} i a e o s =
     record {
-      carries = λ q h. i.carries q (a.carries n c q (subst (λ (y : ℕ). Serial k m' (line_of r' w' ts') (n + 1) y q) e h));
+      carries = λ q h. i.carries q (a.carries n c q (subst (λ (y : ℕ). Serial k m' (line_of t' ts') (n + 1) y q) e h));
       steps = omega (arith, i.steps, a.falls);
       tasks = omega (arith, i.tasks, a.counts);
       objects = o;

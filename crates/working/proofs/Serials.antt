@@ -1,6 +1,5 @@
 -- Serial working ends within the card's bounds, and its function and its relation agree.
-use Rattle.std.proofs.Common.{◌≡◌, ℕ, zero, suc, ◌+◌, ◌<◌, ◌≤◌, ◌↔◌, List, [], ◌∷◌, ◌++◌, sym, refl, ◌∙◌, arith}
-use mathlib.Core.Option.{some}
+use Rattle.std.proofs.Common.{◌≡◌, ℕ, zero, suc, ◌+◌, ◌<◌, ◌≤◌, ◌↔◌, List, [], ◌∷◌, ◌++◌, Some, sym, refl, ◌∙◌, arith}
 use Rattle.kinds.specs.Kinds.{Kind}
 use Rattle.cards.specs.Code.{Card}
 use Rattle.cards.specs.Bounds.{card_steps, card_tasks}
@@ -34,18 +33,18 @@ by_step : {X : Type 0} (p : Reply) (a : FaultKind → ℕ → X) (b : Next → X
 unfolding by_reply
 by_step p a b x e = rw e
 
-pub serial_related : (k : Kind) (fuel : ℕ) (m : List ℕ) (line : List Task) (n c : ℕ) (r : Result) → serial k fuel m line n c ≡ some r → Serial k m line n c r
+pub serial_related : (k : Kind) (fuel : ℕ) (m : List ℕ) (line : List Task) (n c : ℕ) (r : Result) → serial k fuel m line n c ≡ Some r → Serial k m line n c r
 unfolding serial
 serial_related k zero m [] n c r e = let p : result (words m) n c ≡ r = cc in rw (← p) done
 serial_related k zero m (t ∷ ts) n c r e = let z : ◌≡◌ {A = ℕ} 0 1 = cc in absurd (omega arith)
 serial_related k (suc fuel) m [] n c r e = let p : result (words m) n c ≡ r = cc in rw (← p) done
 serial_related k (suc fuel) m (t ∷ ts) n c r e = go (reply m (request k t)) refl (λ x. serial_related k fuel (stored k m (request k t)) (segment x ++ ts) (suc n) (c + made_by x) r)
   where
-    go : (p : Reply) → reply m (request k t) ≡ p → ((x : Next) → serial k fuel (stored k m (request k t)) (segment x ++ ts) (suc n) (c + made_by x) ≡ some r → Serial k (stored k m (request k t)) (segment x ++ ts) (suc n) (c + made_by x) r) → Serial k m (t ∷ ts) n c r
-    go (faulted f l) d h = let p : result (fault f l t.place) n c ≡ r = let w = by_fault (reply m (request k t)) (λ f l. some (result (fault f l t.place) n c)) (λ x. serial k fuel (stored k m (request k t)) (segment x ++ ts) (suc n) (c + made_by x)) f l d in cc in rw (← p) (stop d)
-    go (stepped x) d h = more d (h x (sym (by_step (reply m (request k t)) (λ f l. some (result (fault f l t.place) n c)) (λ x. serial k fuel (stored k m (request k t)) (segment x ++ ts) (suc n) (c + made_by x)) x d) ∙ e))
+    go : (p : Reply) → reply m (request k t) ≡ p → ((x : Next) → serial k fuel (stored k m (request k t)) (segment x ++ ts) (suc n) (c + made_by x) ≡ Some r → Serial k (stored k m (request k t)) (segment x ++ ts) (suc n) (c + made_by x) r) → Serial k m (t ∷ ts) n c r
+    go (faulted f l) d h = let p : result (fault f l t.place) n c ≡ r = let w = by_fault (reply m (request k t)) (λ f l. Some (result (fault f l t.place) n c)) (λ x. serial k fuel (stored k m (request k t)) (segment x ++ ts) (suc n) (c + made_by x)) f l d in cc in rw (← p) (stop d)
+    go (stepped x) d h = more d (h x (sym (by_step (reply m (request k t)) (λ f l. Some (result (fault f l t.place) n c)) (λ x. serial k fuel (stored k m (request k t)) (segment x ++ ts) (suc n) (c + made_by x)) x d) ∙ e))
 
-pub related_serial : (k : Kind) {m : List ℕ} {line : List Task} {n c : ℕ} {r : Result} → Serial k m line n c r → (fuel : ℕ) → total_steps line ≤ fuel → serial k fuel m line n c ≡ some r
+pub related_serial : (k : Kind) {m : List ℕ} {line : List Task} {n c : ℕ} {r : Result} → Serial k m line n c r → (fuel : ℕ) → total_steps line ≤ fuel → serial k fuel m line n c ≡ Some r
 unfolding serial total_steps
 related_serial k done zero h = refl
 related_serial k done (suc fuel) h = refl
@@ -72,7 +71,7 @@ main_steps k c = omega arith
 pub serially_ends : (k : Kind) (c : Card) → (r : Result) × Serially k c r
 serially_ends k c = serial_ends k (card_steps c) (starting_words k c) (main k c ∷ []) 0 1 (omega (arith, main_steps k c))
 
-pub serially_agrees : (k : Kind) (c : Card) (r : Result) → (serially k c ≡ some r) ↔ Serially k c r
+pub serially_agrees : (k : Kind) (c : Card) (r : Result) → (serially k c ≡ Some r) ↔ Serially k c r
 unfolding serially
 serially_agrees k c r = (serial_related k (card_steps c) _ _ _ _ r, λ s. related_serial k s (card_steps c) (omega (arith, main_steps k c)))
 

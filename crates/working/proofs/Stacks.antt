@@ -79,4 +79,4 @@ depth_end x e = ap depth e
 pub task_bound_frame : (f : Frame) (b : Block) → task_bound b ≤ task_bound (frame_block f b)
 unfolding task_bound
 task_bound_frame (After r) b = omega (arith, task_bound_before (block_of r.now) b)
-task_bound_frame (Again l k x r) b = omega (arith, task_bound_before (block_of r.now) b)
+task_bound_frame (Again q) b = omega (arith, task_bound_before (block_of q.rest.now) b)

@@ -1,5 +1,5 @@
 -- A step at the head of the work.
-use Rattle.std.proofs.Common.{◌≡◌, ℕ, zero, suc, ◌+◌, ◌≤◌, max, List, [], ◌∷◌, ◌++◌, sym, refl, ap, ◌∙◌, arith, Bor}
+use Rattle.std.proofs.Common.{◌≡◌, ℕ, zero, suc, ◌+◌, ◌≤◌, max, List, [], ◌∷◌, ◌++◌, sym, refl, ap, ◌∙◌, subst, arith, Bor, Ok, Err}
 use Rattle.kinds.specs.Kinds.{Kind}
 use Rattle.cards.specs.Code.{Block, end, next, Statement, ◌before◌}
 use Rattle.cards.specs.Bounds.{task_bound, statement_tasks, depth, statement_depth}
@@ -7,16 +7,21 @@ use Rattle.cards.specs.declared.tree.Block as tree
 use Rattle.cards.specs.declared.tree.Step.{Step}
 use Rattle.cards.specs.Trees.{block_of, statement_of}
 use Rattle.working.specs.Tasks.{Task}
-use Rattle.working.specs.Requests.{FaultKind, quiet, leaves, goes, makes, changed, continued, statement_request, block_request, request, stored, stepped, reply}
+use Rattle.working.specs.Requests.{quiet, leaves, goes, makes, changed, continued, statement_request, block_request, request, stored, stepped, reply}
+use Rattle.working.specs.declared.fault.Fault.{Fault}
+use Rattle.working.specs.declared.place.Place.{Place}
 use Rattle.working.specs.declared.record.Record.{Record}
+use Rattle.working.specs.declared.task.Task as Rust
+use Rattle.working.specs.declared.frame.Rounds.{Rounds}
+use Rattle.working.specs.declared.moves.Head.TheVariants.{Nothing, Next, Round}
 use Rattle.working.specs.declared.work.Work.{Work}
 use Rattle.working.specs.declared.work.Fresh.{Fresh}
-use Rattle.working.specs.declared.effect.Effect.TheVariants.{Faults, Passes, Amends, Enters, Repeats, Makes}
-use Rattle.working.specs.declared.step.Stepped.TheVariants.{Fault, Went, Amended, Finished, Made}
-use Rattle.working.specs.Works.{ranks_of, work_of, below, over, over_both, step_of, Fits, Few, after_rounds}
+use Rattle.working.specs.declared.effect.Effect.TheVariants.{Passes, Amends, Enters, Repeats, Makes}
+use Rattle.working.specs.declared.step.Stepped.TheVariants.{Went, Amended, Finished, Made}
+use Rattle.working.specs.Works.{ranks_of, work_of, below, over, over_both, step_of, Fits, Few, Stays, Heads, after_rounds}
 use Rattle.working.specs.Records.{task_with}
 use Rattle.working.specs.Effects.{Did, Does}
-use Rattle.working.specs.Steps.{task_of, Answered}
+use Rattle.working.specs.Steps.{task_of, model_of, Answered}
 use Rattle.working.proofs.Fine.{task_bound_before}
 
 -- the work of w begins with the statement of s
@@ -68,67 +73,90 @@ moved : (r : Record) (p : List ℕ) (c : ℕ) (b : Block) (w : Work) → ranks_o
 moved r p c b w e f h =
     ap (λ (x : List ℕ). task_with r x c b) (sym e) ∙ ap (λ (x : ℕ). task_with r (ranks_of w.place) x b) (sym f) ∙ ap (λ (x : Block). task_with r (ranks_of w.place) w.children x) (sym h)
 
+-- the statement of a repeat
+pub repeats_is : {k : Kind} {r r' : Record} {m m' : List ℕ} (s : Step) (n : ℕ) (x : Bor tree.Block) → Does k r m s.line (statement_of s.statement) (Ok (Repeats n x)) r' m' → (statement_of s.statement ≡ Statement.repeat n (block_of x.now)) × (r' ≡ r) × (m' ≡ m)
+unfolding Did
+repeats_is s n x d = d.did [] 0 end end
+
 -- a repeat's step
 repeat_request : (k : Kind) (t : Task) (l n : ℕ) (x b : Block) → statement_request k t l (Statement.repeat n x) b ≡ quiet (goes (continued t (after_rounds l n x b)))
 unfolding statement_request
 repeat_request k t l zero x b = refl
 repeat_request k t l (suc n) x b = refl
 
-module _ (k : Kind) (r r' : Record) (w v : Work) (m m' : List ℕ) where
-  pub answers_finished : work_of w ≡ end → work_of v ≡ end → v.place ≡ w.place → v.children ≡ w.children → r' ≡ r → m' ≡ m → Answered k r w m Finished r' v m'
+module _ (k : Kind) (m : List ℕ) (t t' : Rust.Task) where
+  pub answers_finished : Heads Nothing t.work t'.work → Stays t.work t'.work → t'.own ≡ t.own → Answered k t m (Ok Finished) t' m
   unfolding Answered reply stored
-  answers_finished e f p c a h =
-      let same = ap (λ (y : Record). task_of y v) a ∙ sym (moved r (ranks_of w.place) w.children (work_of w) v (ap ranks_of p) c (f ∙ sym e)) in
-      (ap (reply m) (request_end k (task_of r w) e), h ∙ ap (stored k m) (sym (request_end k (task_of r w) e)), same)
+  answers_finished h s e =
+      let same = ap (λ (y : Record). task_of y t'.work) e ∙ sym (moved t.own (ranks_of t.work.place) t.work.children (work_of t.work) t'.work (ap ranks_of s.0) s.1 (h.1 ∙ sym h.0)) in
+      (ap (reply m) (request_end k (model_of t) h.0), ap (stored k m) (sym (request_end k (model_of t) h.0)), same)
 
-  -- v is w after a round
-  pub answers_rounds : (l n : ℕ) (x b : Block) → work_of w ≡ next l (Statement.repeat n x) b → work_of v ≡ after_rounds l n x b → v.place ≡ w.place → v.children ≡ w.children → r' ≡ r → m' ≡ m → Answered k r w m Went r' v m'
+  -- a round of n is begun
+  answers_round : (l n : ℕ) (x b : Block) → work_of t.work ≡ next l (Statement.repeat n x) b → work_of t'.work ≡ after_rounds l n x b → Stays t.work t'.work → t'.own ≡ t.own → Answered k t m (Ok Went) t' m
   unfolding Answered reply stored continued changed
-  answers_rounds l n x b e f p c a h =
-      let q : request k (task_of r w) ≡ quiet (goes (task_of r' v)) =
-      request_step k (task_of r w) l (Statement.repeat n x) b e ∙ repeat_request k (task_of r w) l n x b
-      ∙ ap (λ (t : Task). quiet (goes t)) (moved r (ranks_of w.place) w.children (after_rounds l n x b) v (ap ranks_of p) c f)
-      ∙ ap (λ (y : Record). quiet (goes (task_of y v))) (sym a) in
-      (ap (reply m) q, h ∙ ap (stored k m) (sym q))
+  answers_round l n x b e f s a =
+      let q : request k (model_of t) ≡ quiet (goes (model_of t')) =
+      request_step k (model_of t) l (Statement.repeat n x) b e ∙ repeat_request k (model_of t) l n x b
+      ∙ ap (λ (y : Task). quiet (goes y)) (moved t.own (ranks_of t.work.place) t.work.children (after_rounds l n x b) t'.work (ap ranks_of s.0) s.1 f)
+      ∙ ap (λ (y : Record). quiet (goes (task_of y t'.work))) (sym a) in
+      (ap (reply m) q, ap (stored k m) (sym q))
 
-asked : (k : Kind) (r : Record) (w : Work) (s : Step) (b : Block) → work_of w ≡ step_of s b → request k (task_of r w) ≡ statement_request k (task_of r w) s.line (statement_of s.statement) b
-asked k r w s b at = request_step k (task_of r w) s.line (statement_of s.statement) b at
+stays_on : (u v w : Work) → Stays u v → Stays v w → Stays u w
+stays_on u v w s t = (t.0 ∙ s.0, t.1 ∙ s.1)
 
--- w has the step of s to do, and then b; v is w moved on
-module _ {k : Kind} {r r' : Record} {m m' : List ℕ} (w v : Work) (s : Step) (b : Block) (at : work_of w ≡ step_of s b) where
-  pub answers_fault : (f : FaultKind) (n : ℕ) → Does k r m s.line (statement_of s.statement) (Faults f n) r' m' → work_of v ≡ work_of w → v.place ≡ w.place → v.children ≡ w.children → Answered k r w m (Fault f n) r' v m'
-  unfolding Answered Did reply
-  answers_fault f n d e p c =
-      let h = d.did (ranks_of w.place) w.children (work_of w) b in
-      (ap (reply m) (asked k r w s b at ∙ h.0), sym (moved r' (ranks_of w.place) w.children (work_of w) v (ap ranks_of p) c e) ∙ ap (λ (x : Record). task_of x w) h.1, h.2)
+-- u is what is left of the work of t at its head
+module _ (k : Kind) (m : List ℕ) (t t' : Rust.Task) (u : Work) (stays : Stays t.work u) where
+  pub answers_rounds : (q : Rounds) → Heads (Round q) t.work u → work_of t'.work ≡ after_rounds q.line q.left (block_of q.body.now) (over (block_of q.rest.now) u) → Stays u t'.work → t'.own ≡ t.own → Answered k t m (Ok Went) t' m
+  answers_rounds q h e s a = answers_round k m t t' q.line q.left (block_of q.body.now) (over (block_of q.rest.now) u) h.0 e (stays_on t.work u t'.work stays s) a
 
-  pub answers_passes : Does k r m s.line (statement_of s.statement) Passes r' m' → work_of v ≡ b → v.place ≡ w.place → v.children ≡ w.children → Answered k r w m Went r' v m'
-  unfolding Answered Did
-  answers_passes d e p c =
-      let h = d.did (ranks_of w.place) w.children (work_of w) b in
-      (ap (reply m) (asked k r w s b at) ∙ h.0 ∙ ap (λ (t : Task). stepped (goes t)) (moved r' (ranks_of w.place) w.children b v (ap ranks_of p) c e), h.1 ∙ ap (stored k m) (sym (asked k r w s b at)))
+  -- it is the step of s
+  module _ (m' : List ℕ) (s : Bor Step) (head : Heads (Next s) t.work u) where
+    asked : request k (model_of t) ≡ statement_request k (model_of t) s.now.line (statement_of s.now.statement) (over (block_of s.now.rest) u)
+    asked = request_step k (model_of t) s.now.line (statement_of s.now.statement) (over (block_of s.now.rest) u) (sym head.0 ∙ at_work u s.now head.1)
 
-  pub answers_amends : Does k r m s.line (statement_of s.statement) Amends r' m' → work_of v ≡ b → v.place ≡ w.place → v.children ≡ w.children → Answered k r w m Amended r' v m'
-  unfolding Answered Did
-  answers_amends d e p c = answers_passes (record { did = d.did }) e p c
+    pub answers_fault : (f : Fault) → Does k t.own m s.now.line (statement_of s.now.statement) (Err f) t'.own m' → t'.work ≡ u → Answered k t m (Err f) t' m'
+    unfolding Answered Did reply
+    answers_fault f d e =
+        let h = d.did (ranks_of t.work.place) t.work.children (work_of t.work) (over (block_of s.now.rest) u) in (
+          ap (reply m) (asked ∙ h.0),
+          sym (moved t'.own (ranks_of t.work.place) t.work.children (work_of t.work) t'.work (ap (λ (x : Work). ranks_of x.place) e ∙ ap ranks_of stays.0) (ap (λ (x : Work). x.children) e ∙ stays.1) (ap work_of e ∙ head.0)) ∙ ap (λ (x : Record). task_of x t.work) h.1,
+          h.2,
+        )
 
-  pub answers_enters : (x : Bor tree.Block) → Does k r m s.line (statement_of s.statement) (Enters x) r' m' → work_of v ≡ block_of x.now before b → v.place ≡ w.place → v.children ≡ w.children → Answered k r w m Went r' v m'
-  unfolding Answered Did
-  answers_enters x d e p c =
-      let h = d.did (ranks_of w.place) w.children (work_of w) b in
-      (ap (reply m) (asked k r w s b at) ∙ h.0 ∙ ap (λ (t : Task). stepped (goes t)) (moved r' (ranks_of w.place) w.children (block_of x.now before b) v (ap ranks_of p) c e), h.1 ∙ ap (stored k m) (sym (asked k r w s b at)))
+    pub answers_passes : Does k t.own m s.now.line (statement_of s.now.statement) (Ok Passes) t'.own m' → work_of t'.work ≡ over (block_of s.now.rest) u → Stays u t'.work → Answered k t m (Ok Went) t' m'
+    unfolding Answered Did
+    answers_passes d e p =
+        let b = over (block_of s.now.rest) u in
+        let h = d.did (ranks_of t.work.place) t.work.children (work_of t.work) b in
+        (ap (reply m) asked ∙ h.0 ∙ ap (λ (y : Task). stepped (goes y)) (moved t'.own (ranks_of t.work.place) t.work.children b t'.work (ap ranks_of (p.0 ∙ stays.0)) (p.1 ∙ stays.1) e), h.1 ∙ ap (stored k m) (sym asked))
 
-  pub repeats_is : (n : ℕ) (x : Bor tree.Block) → Does k r m s.line (statement_of s.statement) (Repeats n x) r' m' → (statement_of s.statement ≡ Statement.repeat n (block_of x.now)) × (r' ≡ r) × (m' ≡ m)
-  unfolding Did
-  repeats_is n x d = d.did (ranks_of w.place) w.children (work_of w) b
+    pub answers_amends : Does k t.own m s.now.line (statement_of s.now.statement) (Ok Amends) t'.own m' → work_of t'.work ≡ over (block_of s.now.rest) u → Stays u t'.work → Answered k t m (Ok Amended) t' m'
+    unfolding Answered Did
+    answers_amends d e p = answers_passes (record { did = d.did }) e p
 
-  pub answers_makes : (u : Record) (x : Bor tree.Block) (z : Fresh) → Does k r m s.line (statement_of s.statement) (Makes u x) r' m' → work_of v ≡ b → v.place ≡ w.place → v.children ≡ suc w.children → block_of z.body.now ≡ block_of x.now → ranks_of z.place ≡ ranks_of w.place ++ suc w.children ∷ [] → Answered k r w m (Made u z) r' v m'
-  unfolding Answered Did
-  answers_makes u x z d e p c f g =
-      let h = d.did (ranks_of w.place) w.children (work_of w) b in (
-        ap (reply m) (asked k r w s b at) ∙ h.0
-            ∙ ap (λ (t : Task). stepped (makes (task_with u (ranks_of w.place ++ suc w.children ∷ []) 0 (block_of x.now)) t)) (moved r' (ranks_of w.place) (suc w.children) b v (ap ranks_of p) c e)
-            ∙ ap (λ (l : List ℕ). stepped (makes (task_with u l 0 (block_of x.now)) (task_of r' v))) (sym g)
-            ∙ ap (λ (y : Block). stepped (makes (task_with u (ranks_of z.place) 0 y) (task_of r' v))) (sym f),
-        h.1 ∙ ap (stored k m) (sym (asked k r w s b at)),
-      )
+    pub answers_enters : (x : Bor tree.Block) → Does k t.own m s.now.line (statement_of s.now.statement) (Ok (Enters x)) t'.own m' → work_of t'.work ≡ over_both (block_of x.now) (block_of s.now.rest) u → Stays u t'.work → Answered k t m (Ok Went) t' m'
+    unfolding Answered Did
+    answers_enters x d e p =
+        let b = over (block_of s.now.rest) u in
+        let h = d.did (ranks_of t.work.place) t.work.children (work_of t.work) b in
+        (ap (reply m) asked ∙ h.0 ∙ ap (λ (y : Task). stepped (goes y)) (moved t'.own (ranks_of t.work.place) t.work.children (block_of x.now before b) t'.work (ap ranks_of (p.0 ∙ stays.0)) (p.1 ∙ stays.1) e), h.1 ∙ ap (stored k m) (sym asked))
+
+    pub answers_repeats : (n : ℕ) (x : Bor tree.Block) → Does k t.own m s.now.line (statement_of s.now.statement) (Ok (Repeats n x)) t'.own m' → work_of t'.work ≡ after_rounds s.now.line n (block_of x.now) (over (block_of s.now.rest) u) → Stays u t'.work → Answered k t m (Ok Went) t' m'
+    answers_repeats n x d e p =
+        let b = over (block_of s.now.rest) u in
+        let h = repeats_is s.now n x d in
+        let here = sym head.0 ∙ at_work u s.now head.1 ∙ ap (λ (y : Statement). next s.now.line y b) h.0 in
+        subst (Answered k t m (Ok Went) t') (sym h.2) (answers_round k m t t' s.now.line n (block_of x.now) b here e (stays_on t.work u t'.work stays p) h.1)
+
+    pub answers_makes : (v : Record) (x : Bor tree.Block) (z : Fresh) → Does k t.own m s.now.line (statement_of s.now.statement) (Ok (Makes v x)) t'.own m' → work_of t'.work ≡ over (block_of s.now.rest) u → t'.work.place ≡ u.place → t'.work.children ≡ suc u.children → (block_of z.body.now ≡ block_of x.now) × (ranks_of z.place ≡ ranks_of u.place ++ suc u.children ∷ []) → Answered k t m (Ok (Made v z)) t' m'
+    unfolding Answered Did
+    answers_makes v x z d e p c f =
+        let b = over (block_of s.now.rest) u in
+        let h = d.did (ranks_of t.work.place) t.work.children (work_of t.work) b in
+        let ranks = f.1 ∙ ap (λ (y : Place). ranks_of y ++ suc u.children ∷ []) stays.0 ∙ ap (λ (n : ℕ). ranks_of t.work.place ++ suc n ∷ []) stays.1 in (
+          ap (reply m) asked ∙ h.0
+              ∙ ap (λ (y : Task). stepped (makes (task_with v (ranks_of t.work.place ++ suc t.work.children ∷ []) 0 (block_of x.now)) y)) (moved t'.own (ranks_of t.work.place) (suc t.work.children) b t'.work (ap ranks_of (p ∙ stays.0)) (c ∙ ap suc stays.1) e)
+              ∙ ap (λ (l : List ℕ). stepped (makes (task_with v l 0 (block_of x.now)) (model_of t'))) (sym ranks)
+              ∙ ap (λ (y : Block). stepped (makes (task_with v (ranks_of z.place) 0 y) (model_of t'))) (sym f.0),
+          h.1 ∙ ap (stored k m) (sym asked),
+        )

@@ -1,52 +1,53 @@
 -- What a statement does to a record and the objects' words.
-use Rattle.std.specs.Prelude.{◌≡◌, ℕ, suc, ◌≤◌, List, [], ◌∷◌, ◌++◌}
+use Rattle.std.specs.Prelude.{◌≡◌, ℕ, suc, ◌≤◌, List, [], ◌∷◌, ◌++◌, Result, Ok, Err}
 use Rattle.kinds.specs.Kinds.{Kind}
 use Rattle.cards.specs.Code.{Block, Statement, ◌before◌}
 use Rattle.cards.specs.Bounds.{depth, statement_depth, task_bound, statement_tasks}
 use Rattle.cards.specs.Trees.{block_of}
 use Rattle.working.specs.Tasks.{Declared}
 use Rattle.working.specs.Requests.{Request, fault, goes, makes, statement_request, stored, stepped, reply}
+use Rattle.working.specs.declared.fault.Fault.{Fault}
 use Rattle.working.specs.declared.record.Record.{Record}
 use Rattle.working.specs.declared.effect.Effect.{Effect}
-use Rattle.working.specs.declared.effect.Effect.TheVariants.{Faults, Passes, Amends, Enters, Repeats, Makes}
+use Rattle.working.specs.declared.effect.Effect.TheVariants.{Passes, Amends, Enters, Repeats, Makes}
 use Rattle.working.specs.Records.{task_with}
 
 -- statement s meets its request q from record r and words m, of a task at place p with c children and b to do after s
-unfoldable pub Did : Kind → Record → List ℕ → Statement → Effect → Record → List ℕ → List ℕ → ℕ → Block → Request → Type 0
-Did k r m s (Faults f n) r' m' p c b q = (q ≡ fault f n) × (r' ≡ r) × (m' ≡ m)
-Did k r m s Passes r' m' p c b q = (reply m q ≡ stepped (goes (task_with r' p c b))) × (m' ≡ stored k m q)
-Did k r m s Amends r' m' p c b q = (reply m q ≡ stepped (goes (task_with r' p c b))) × (m' ≡ stored k m q)
-Did k r m s (Enters x) r' m' p c b q = (reply m q ≡ stepped (goes (task_with r' p c (block_of x.now before b)))) × (m' ≡ stored k m q)
-Did k r m s (Repeats n x) r' m' p c b q = (s ≡ Statement.repeat n (block_of x.now)) × (r' ≡ r) × (m' ≡ m)
-Did k r m s (Makes u x) r' m' p c b q = (reply m q ≡ stepped (makes (task_with u (p ++ suc c ∷ []) 0 (block_of x.now)) (task_with r' p (suc c) b))) × (m' ≡ stored k m q)
+unfoldable pub Did : Kind → Record → List ℕ → Statement → Result Effect Fault → Record → List ℕ → List ℕ → ℕ → Block → Request → Type 0
+Did k r m s (Err f) r' m' p c b q = (q ≡ fault f.kind f.line) × (r' ≡ r) × (m' ≡ m)
+Did k r m s (Ok Passes) r' m' p c b q = (reply m q ≡ stepped (goes (task_with r' p c b))) × (m' ≡ stored k m q)
+Did k r m s (Ok Amends) r' m' p c b q = (reply m q ≡ stepped (goes (task_with r' p c b))) × (m' ≡ stored k m q)
+Did k r m s (Ok (Enters x)) r' m' p c b q = (reply m q ≡ stepped (goes (task_with r' p c (block_of x.now before b)))) × (m' ≡ stored k m q)
+Did k r m s (Ok (Repeats n x)) r' m' p c b q = (s ≡ Statement.repeat n (block_of x.now)) × (r' ≡ r) × (m' ≡ m)
+Did k r m s (Ok (Makes u x)) r' m' p c b q = (reply m q ≡ stepped (makes (task_with u (p ++ suc c ∷ []) 0 (block_of x.now)) (task_with r' p (suc c) b))) × (m' ≡ stored k m q)
 
 -- s at line l, whatever the rest of the task
-pub record Does (k : Kind) (r : Record) (m : List ℕ) (l : ℕ) (s : Statement) (d : Effect) (r' : Record) (m' : List ℕ) : Type 0 where
+pub record Does (k : Kind) (r : Record) (m : List ℕ) (l : ℕ) (s : Statement) (d : Result Effect Fault) (r' : Record) (m' : List ℕ) : Type 0 where
   pub did : (p : List ℕ) (c : ℕ) (w b : Block) → Did k r m s d r' m' p c b (statement_request k (task_with r p c w) l s b)
 
 -- a block that is entered, or that a child gets, stands in the statement
-abbrev pub Inside : Statement → Effect → Type 0
-Inside s (Faults f n) = Unit {0}
-Inside s Passes = Unit {0}
-Inside s Amends = Unit {0}
-Inside s (Enters x) = (suc (depth (block_of x.now)) ≤ statement_depth s) × (task_bound (block_of x.now) ≤ statement_tasks s)
-Inside s (Repeats n x) = Unit {0}
-Inside s (Makes u x) = (suc (depth (block_of x.now)) ≤ statement_depth s) × (suc (task_bound (block_of x.now)) ≤ statement_tasks s)
+abbrev pub Inside : Statement → Result Effect Fault → Type 0
+Inside s (Err f) = Unit {0}
+Inside s (Ok Passes) = Unit {0}
+Inside s (Ok Amends) = Unit {0}
+Inside s (Ok (Enters x)) = (suc (depth (block_of x.now)) ≤ statement_depth s) × (task_bound (block_of x.now) ≤ statement_tasks s)
+Inside s (Ok (Repeats n x)) = Unit {0}
+Inside s (Ok (Makes u x)) = (suc (depth (block_of x.now)) ≤ statement_depth s) × (suc (task_bound (block_of x.now)) ≤ statement_tasks s)
 
 -- a child has as many objects
-abbrev pub Sized : ℕ → Effect → Type 0
-Sized n (Faults f l) = Unit {0}
-Sized n Passes = Unit {0}
-Sized n Amends = Unit {0}
-Sized n (Enters x) = Unit {0}
-Sized n (Repeats c x) = Unit {0}
-Sized n (Makes u x) = u.objects ≡ n
+abbrev pub Sized : ℕ → Result Effect Fault → Type 0
+Sized n (Err f) = Unit {0}
+Sized n (Ok Passes) = Unit {0}
+Sized n (Ok Amends) = Unit {0}
+Sized n (Ok (Enters x)) = Unit {0}
+Sized n (Ok (Repeats c x)) = Unit {0}
+Sized n (Ok (Makes u x)) = u.objects ≡ n
 
 -- only a `with` changes the declarations
-abbrev pub Kept : List Declared → Effect → List Declared → Type 0
-Kept ds (Faults f l) ds' = ds' ≡ ds
-Kept ds Passes ds' = ds' ≡ ds
-Kept ds Amends ds' = Unit {0}
-Kept ds (Enters x) ds' = ds' ≡ ds
-Kept ds (Repeats c x) ds' = ds' ≡ ds
-Kept ds (Makes u x) ds' = ds' ≡ ds
+abbrev pub Kept : List Declared → Result Effect Fault → List Declared → Type 0
+Kept ds (Err f) ds' = ds' ≡ ds
+Kept ds (Ok Passes) ds' = ds' ≡ ds
+Kept ds (Ok Amends) ds' = Unit {0}
+Kept ds (Ok (Enters x)) ds' = ds' ≡ ds
+Kept ds (Ok (Repeats c x)) ds' = ds' ≡ ds
+Kept ds (Ok (Makes u x)) ds' = ds' ≡ ds

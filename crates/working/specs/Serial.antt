@@ -1,6 +1,5 @@
 -- Serial working: a pile of tasks, of which the top one makes each step.
-use Rattle.std.specs.Prelude.{◌≡◌, ℕ, zero, suc, ◌+◌, List, [], ◌∷◌, ◌++◌}
-use Rattle.std.proofs.Math.Option.{Option, none, some}
+use Rattle.std.specs.Prelude.{◌≡◌, ℕ, zero, suc, ◌+◌, List, [], ◌∷◌, ◌++◌, Some, None, Option}
 use Rattle.kinds.specs.Kinds.{Kind}
 use Rattle.cards.specs.Code.{Card}
 use Rattle.cards.specs.Bounds.{card_steps}
@@ -36,14 +35,14 @@ unfoldable pub by_reply : {X : Type 0} → Reply → (FaultKind → ℕ → X) �
 by_reply (faulted f l) a b = a f l
 by_reply (stepped x) a b = b x
 
--- from words m and a pile, with n steps made and c tasks made: what it comes to, or none where the fuel does not suffice
+-- from words m and a pile, with n steps made and c tasks made: what it comes to, or None where the fuel does not suffice
 unfoldable pub serial : Kind → ℕ → List ℕ → List Task → ℕ → ℕ → Option Result
-serial k zero m [] n c = some (result (words m) n c)
-serial k zero m (t ∷ ts) n c = none
-serial k (suc fuel) m [] n c = some (result (words m) n c)
+serial k zero m [] n c = Some (result (words m) n c)
+serial k zero m (t ∷ ts) n c = None
+serial k (suc fuel) m [] n c = Some (result (words m) n c)
 serial k (suc fuel) m (t ∷ ts) n c =
     by_reply (reply m (request k t))
-    (λ f l. some (result (fault f l t.place) n c))
+    (λ f l. Some (result (fault f l t.place) n c))
     (λ x. serial k fuel (stored k m (request k t)) (segment x ++ ts) (suc n) (c + made_by x))
 
 -- the same as a relation

@@ -1,11 +1,12 @@
 -- A task's record, and what it declares.
-use Rattle.std.specs.Prelude.{ℕ, Bool, true, false, List, [], map, length, replicate, pos, slice_index_or, slice_set}
+use Rattle.std.specs.Prelude.{ℕ, List, [], map, length, replicate, pos, slice_index_or, slice_set}
 use Rattle.kinds.specs.Kinds.{Kind}
 use Rattle.cards.specs.declared.lines.Access.{Access}
 use Rattle.cards.specs.declared.lines.Access.TheVariants.{Rd, Wr, Cm}
 use Rattle.cards.specs.declared.lines.Level.{Level}
-use Rattle.cards.specs.declared.lines.Level.TheVariants.{Absent, Deferred, Immediate}
+use Rattle.cards.specs.declared.lines.Level.TheVariants.{Absent, Deferred}
 use Rattle.cards.specs.Code.{Block, Card}
+pub use Rattle.cards.specs.Levels.{held, is_immediate}
 pub use Rattle.working.specs.declared.declared.Declared.{Declared}
 
 abbrev pub nothing : Declared
@@ -24,17 +25,6 @@ abbrev pub with_state : Declared → Access → Level → Declared
 with_state d Rd s = record { reads = s; writes = d.writes; commutes = d.commutes }
 with_state d Wr s = record { reads = d.reads; writes = s; commutes = d.commutes }
 with_state d Cm s = record { reads = d.reads; writes = d.writes; commutes = s }
-
--- deferred or immediate
-abbrev pub held : Level → Bool
-held Absent = false
-held Deferred = true
-held Immediate = true
-
-abbrev pub is_immediate : Level → Bool
-is_immediate Absent = false
-is_immediate Deferred = false
-is_immediate Immediate = true
 
 -- the state of an access on object o, nothing past the last; and declarations with another state there
 abbrev pub level : List Declared → ℕ → Access → Level

@@ -1,14 +1,14 @@
 -- What work a task has still to do.
-use Rattle.std.specs.Prelude.{◌≡◌, ℕ, zero, suc, ◌+◌, ◌≤◌, max, List, take, vec_items, vec_len}
+use Rattle.std.specs.Prelude.{◌≡◌, ℕ, zero, suc, ◌+◌, ◌≤◌, List, take, vec_items, vec_len}
 use Rattle.cards.specs.Code.{Block, end, next, Statement, ◌before◌}
-use Rattle.cards.specs.Bounds.{task_bound, depth}
+use Rattle.cards.specs.Bounds.{task_bound}
 use Rattle.cards.specs.declared.tree.Step.{Step}
 use Rattle.cards.specs.Trees.{block_of, statement_of}
 use Rattle.working.specs.declared.place.Place.{Place}
 use Rattle.working.specs.declared.work.Work.{Work}
 use Rattle.working.specs.declared.moves.Head.{Head}
 use Rattle.working.specs.declared.moves.Head.TheVariants.{Nothing, Next, Round}
-use Rattle.working.specs.Frames.{stack, left_in}
+use Rattle.working.specs.Frames.{rounds_block, rounds_depth, stack, left_in}
 
 abbrev pub ranks_of : Place → List ℕ
 ranks_of p = take p.depth p.ranks
@@ -45,10 +45,7 @@ Stays v w = (w.place ≡ v.place) × (w.children ≡ v.children)
 abbrev pub Heads : Head → Work → Work → Type 0
 Heads Nothing v w = (work_of v ≡ end) × (work_of w ≡ end)
 Heads (Next s) v w = (work_of w ≡ work_of v) × (block_of w.at.now ≡ step_of s.now (block_of s.now.rest))
-Heads (Round l n x r) v w =
-    (work_of v ≡ next l (Statement.repeat n (block_of x.now)) (block_of r.now before below w))
-    × Fits w (max (suc (depth (block_of x.now))) (depth (block_of r.now)))
-    × Few w (work_of v)
+Heads (Round q) v w = (work_of v ≡ rounds_block q (below w)) × Fits w (rounds_depth q) × Few w (work_of v)
 
 -- what is left once a round of n rounds of x before b is begun
 abbrev pub after_rounds : ℕ → ℕ → Block → Block → Block

@@ -1,19 +1,13 @@
 // What a record declares, and what declaration sections do to it.
-ghost use Rattle.std.specs.Prelude.{◌≡◌, ℕ, ◌<◌, true, length, slice_index_or};
-ghost use Rattle.cards.specs.Sections.{no_declaration};
+ghost use Rattle.std.specs.Prelude.{◌≡◌, ◌<◌, length};
 ghost use Rattle.working.specs.Tasks as Tasks;
 ghost use Rattle.working.specs.Requests.{amended, endowed};
-ghost use Rattle.working.specs.Records.{declared_of, section_of, AmendedRecord, ChildRecord};
+ghost use Rattle.working.specs.Records.{declared_of, section_of, access_fault, Reaches, AmendedRecord, ChildRecord};
 
 use crate::declared::Declared;
+use crate::fault::{Fault, FaultKind, Refused};
 use crate::record::Record;
-use cards::{Access, Declaration, Level, Section};
-
-const NOTHING: Declared = Declared {
-    reads: Level::Absent,
-    writes: Level::Absent,
-    commutes: Level::Absent,
-};
+use cards::{Access, Level, Pointer, Section};
 
 impl Declared {
     // The level of an access.
@@ -32,11 +26,7 @@ impl Declared {
 fn level(ds: &[Declared], o: usize, a: Access) -> Level
     ensures { result ≡ Tasks.level ds.now o a }
 {
-    if o < ds.len() {
-        ds[o].state(a)
-    } else {
-        Level::Absent
-    }
+    ds.get(o).map_or(Level::Absent, |d| d.state(a))
 }
 
 fn assign(ds: &mut [Declared], o: usize, a: Access, level: Level)
@@ -50,91 +40,105 @@ fn assign(ds: &mut [Declared], o: usize, a: Access, level: Level)
     }
 }
 
-// What `with` does to declarations: the line of the first that is refused, or none.
-fn amend(pointers: &[u8; 4], ds: &mut [Declared], lines: &[Declaration]) -> Option<u32>
-    requires { (i : ℕ) → i < length lines.now → (slice_index_or lines.now i no_declaration).pointer < 4 }
-    ensures { amended pointers.now ds.old lines.now ≡ section_of result ds.new }
+// What `with` does to declarations, up to the first that is refused.
+fn amend(pointers: &[u8; 4], ds: &mut [Declared], section: &Section) -> Result<(), Refused>
+    ensures { amended pointers.now ds.old section.now.lines.items ≡ section_of result ds.new }
 {
-    for x in lines {
+    for x in &section.lines {
         let o = pointers[x.pointer as usize] as usize;
-        match level(ds, o, x.access) {
-            Level::Absent => return Some(x.line),
-            _ => assign(ds, o, x.access, x.level),
+        if !level(ds, o, x.access).is_held() {
+            return Err(Refused { line: x.line });
         }
+        assign(ds, o, x.access, x.level);
     }
-    None
+    Ok(())
 }
 
-// What `task` makes of a child's declarations by its maker's: the line of the first that is refused, or none.
+// What `task` makes of a child's declarations by its maker's, up to the first that is refused. A loop of its own:
+// `amend` asks the declarations that it changes, so no parameter stands for what both ask.
+#[tactic(auto, unfolding(crate::specs::Requests::endowed))]
 fn endow(
     pointers: &[u8; 4],
     maker: &[Declared],
     ds: &mut [Declared],
-    lines: &[Declaration],
-) -> Option<u32>
-    requires pointers { (i : ℕ) → i < length lines.now → (slice_index_or lines.now i no_declaration).pointer < 4 }
-    requires same { length ds.old ≡ length maker.now }
-    ensures { endowed pointers.now maker.now ds.old lines.now ≡ section_of result ds.new }
+    section: &Section,
+) -> Result<(), Refused>
+    requires { length ds.old ≡ length maker.now }
+    ensures { endowed pointers.now maker.now ds.old section.now.lines.items ≡ section_of result ds.new }
 {
-    for x in lines {
+    for x in &section.lines {
         let o = pointers[x.pointer as usize] as usize;
-        match level(maker, o, x.access) {
-            Level::Absent => return Some(x.line),
-            _ => assign(ds, o, x.access, x.level),
+        if !level(maker, o, x.access).is_held() {
+            return Err(Refused { line: x.line });
+        }
+        assign(ds, o, x.access, x.level);
+    }
+    Ok(())
+}
+
+// The fault of an access that is not declared immediate.
+impl From<Access> for FaultKind {
+    ghost from_gives = { λ a f. f ≡ access_fault a };
+
+    fn from(a: Access) -> FaultKind {
+        match a {
+            Access::Rd => FaultKind::Read,
+            Access::Wr => FaultKind::Write,
+            Access::Cm => FaultKind::Join,
         }
     }
-    None
 }
 
 impl Record {
-    // Whether an access on an object is immediate.
-    pub(crate) fn immediate(&self, o: usize, a: Access) -> bool
-        ensures value { result ≡ Tasks.is_immediate (Tasks.level (declared_of self.now) o a) }
-        ensures inside { result ≡ true → o < self.now.objects }
+    // What is declared on each object.
+    pub fn declared(&self) -> &[Declared]
+        ensures { result.now ≡ declared_of self.now }
     {
-        match level(&self.declared[..self.objects as usize], o, a) {
-            Level::Immediate => true,
-            _ => false,
+        &self.declared[..self.objects as usize]
+    }
+
+    // The object that a pointer names, if the access on it is immediate.
+    pub(crate) fn reach(&self, p: Pointer, a: Access, line: u32) -> Result<usize, Fault>
+        ensures { Reaches self.now p.n a line result }
+    {
+        let o = self.pointers[p.n as usize] as usize;
+        if level(self.declared(), o, a).is_immediate() {
+            Ok(o)
+        } else {
+            Err(Fault {
+                kind: FaultKind::from(a),
+                line,
+            })
         }
     }
 
-    // A `with`: the line that is refused, and then nothing is changed.
-    pub(crate) fn amend(&mut self, section: &Section) -> Option<u32>
+    // A `with`. Where it is refused, nothing is changed.
+    pub(crate) fn amend(&mut self, section: &Section) -> Result<(), Refused>
         ensures { AmendedRecord section.now.lines.items self.old result self.new }
     {
         let mut ds = self.declared;
-        match amend(
-            &self.pointers,
-            &mut ds[..self.objects as usize],
-            &section.lines,
-        ) {
-            Some(line) => Some(line),
-            None => {
-                self.declared = ds;
-                None
-            }
-        }
+        let objects = self.objects as usize;
+        amend(&self.pointers, &mut ds[..objects], section)?;
+        self.declared = ds;
+        Ok(())
     }
 
-    // The record of a child, with copies of the words and pointers; or the line that is refused.
-    pub(crate) fn child(&self, section: &Section) -> Result<Record, u32>
+    // The record of a child, with copies of the words and pointers.
+    pub(crate) fn child(&self, section: &Section) -> Result<Record, Refused>
         ensures { ChildRecord section.now.lines.items self.now result }
     {
-        let objects = self.objects as usize;
-        let mut ds = [NOTHING; 16];
-        match endow(
+        let mut ds = [Declared::NOTHING; 16];
+        endow(
             &self.pointers,
-            &self.declared[..objects],
-            &mut ds[..objects],
-            &section.lines,
-        ) {
-            Some(line) => Err(line),
-            None => Ok(Record {
-                words: self.words,
-                pointers: self.pointers,
-                declared: ds,
-                objects: self.objects,
-            }),
-        }
+            self.declared(),
+            &mut ds[..self.objects as usize],
+            section,
+        )?;
+        Ok(Record {
+            words: self.words,
+            pointers: self.pointers,
+            declared: ds,
+            objects: self.objects,
+        })
     }
 }

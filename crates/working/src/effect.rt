@@ -4,16 +4,15 @@ ghost use Rattle.cards.specs.Trees.{statement_of};
 ghost use Rattle.working.specs.Effects.{Does, Inside, Sized, Kept};
 ghost use Rattle.working.specs.Records.{declared_of};
 
-use crate::fault::FaultKind;
+use crate::fault::Fault;
 use crate::record::Record;
-use cards::{Access, Block, Local, Pointer, Statement, Step};
+use cards::{Access, Block, Local, Statement, Step};
 use kinds::ValueKind;
 
-// A fault and its line; or how the work goes on: it passes to the rest, with other declarations or not, enters a
-// block, repeats one, or makes a child of one.
+// How the work goes on: it passes to the rest, with other declarations or not, enters a block, repeats one, or makes a
+// child of one.
 #[derive(Clone, Copy)]
 pub(crate) enum Effect<'c> {
-    Faults(FaultKind, u32),
     Passes,
     Amends,
     Enters(&'c Block),
@@ -28,20 +27,13 @@ impl Record {
         self.words[i.n as usize]
     }
 
-    // The object that a pointer names.
-    fn object(&self, p: Pointer) -> usize
-        ensures { result ≡ slice_index self.now.pointers p.n }
-    {
-        self.pointers[p.n as usize] as usize
-    }
-
     // Does the statement of a step, but for the work.
     pub(crate) fn act<'c, K: ValueKind>(
         &mut self,
         kind: &K,
         store: &mut [u32],
         step: &'c Step,
-    ) -> Effect<'c>
+    ) -> Result<Effect<'c>, Fault>
         requires { self.old.objects ≤ length store.old }
         ensures does { Does (K.ValueKind.kind kind.now) self.old store.old step.now.line (statement_of step.now.statement) result self.new store.new }
         ensures inside { Inside (statement_of step.now.statement) result }
@@ -52,52 +44,40 @@ impl Record {
         match &step.statement {
             Statement::Set { word, literal } => {
                 self.words[word.n as usize] = kind.literal(*literal);
-                Effect::Passes
+                Ok(Effect::Passes)
             }
             Statement::Add { left, right } => {
                 self.words[left.n as usize] = kind.add(self.word(*left), self.word(*right));
-                Effect::Passes
+                Ok(Effect::Passes)
             }
             Statement::Point { pointer, object } => {
                 self.pointers[pointer.n as usize] = *object;
-                Effect::Passes
+                Ok(Effect::Passes)
             }
             Statement::Alias { left, right } => {
                 self.pointers[left.n as usize] = self.pointers[right.n as usize];
-                Effect::Passes
+                Ok(Effect::Passes)
             }
             Statement::Read { word, pointer } => {
-                let o = self.object(*pointer);
-                if self.immediate(o, Access::Rd) {
-                    self.words[word.n as usize] = store[o];
-                    Effect::Passes
-                } else {
-                    Effect::Faults(FaultKind::Read, step.line)
-                }
+                let o = self.reach(*pointer, Access::Rd, step.line)?;
+                self.words[word.n as usize] = store[o];
+                Ok(Effect::Passes)
             }
             Statement::Write { pointer, word } => {
-                let o = self.object(*pointer);
-                if self.immediate(o, Access::Wr) {
-                    store[o] = self.word(*word);
-                    Effect::Passes
-                } else {
-                    Effect::Faults(FaultKind::Write, step.line)
-                }
+                let o = self.reach(*pointer, Access::Wr, step.line)?;
+                store[o] = self.word(*word);
+                Ok(Effect::Passes)
             }
             Statement::Join { pointer, word } => {
-                let o = self.object(*pointer);
-                if self.immediate(o, Access::Cm) {
-                    store[o] = kind.join(store[o], self.word(*word));
-                    Effect::Passes
-                } else {
-                    Effect::Faults(FaultKind::Join, step.line)
-                }
+                let o = self.reach(*pointer, Access::Cm, step.line)?;
+                store[o] = kind.join(store[o], self.word(*word));
+                Ok(Effect::Passes)
             }
             Statement::If { left, right, first } => {
                 if kind.less(self.word(*left), self.word(*right)) {
-                    Effect::Enters(first)
+                    Ok(Effect::Enters(first))
                 } else {
-                    Effect::Passes
+                    Ok(Effect::Passes)
                 }
             }
             Statement::IfElse {
@@ -107,20 +87,20 @@ impl Record {
                 second,
             } => {
                 if kind.less(self.word(*left), self.word(*right)) {
-                    Effect::Enters(first)
+                    Ok(Effect::Enters(first))
                 } else {
-                    Effect::Enters(second)
+                    Ok(Effect::Enters(second))
                 }
             }
-            Statement::Repeat { count, body } => Effect::Repeats(*count, body),
-            Statement::Task { section, body } => match self.child(section) {
-                Ok(child) => Effect::Makes(child, body),
-                Err(line) => Effect::Faults(FaultKind::Declare, line),
-            },
-            Statement::With { section } => match self.amend(section) {
-                Some(line) => Effect::Faults(FaultKind::Declare, line),
-                None => Effect::Amends,
-            },
+            Statement::Repeat { count, body } => Ok(Effect::Repeats(*count, body)),
+            Statement::Task { section, body } => {
+                let child = self.child(section)?;
+                Ok(Effect::Makes(child, body))
+            }
+            Statement::With { section } => {
+                self.amend(section)?;
+                Ok(Effect::Amends)
+            }
         }
     }
 }

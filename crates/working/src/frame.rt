@@ -1,16 +1,18 @@
 // What waits below the block that is worked.
 use cards::Block;
 
-// The rest of a block; or rounds left of a block, and then the rest.
+// Rounds left of a block, with the line of their statement, and the rest after it.
+#[derive(Clone, Copy)]
+pub(crate) struct Rounds<'c> {
+    pub line: u32,
+    pub left: u8,
+    pub body: &'c Block,
+    pub rest: &'c Block,
+}
+
+// The rest of a block; or rounds, and then the rest.
 #[derive(Clone, Copy)]
 pub(crate) enum Frame<'c> {
-    After {
-        rest: &'c Block,
-    },
-    Again {
-        line: u32,
-        left: u8,
-        body: &'c Block,
-        rest: &'c Block,
-    },
+    After(&'c Block),
+    Again(Rounds<'c>),
 }

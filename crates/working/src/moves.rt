@@ -4,9 +4,10 @@ ghost use Rattle.cards.specs.Code.{next, Statement as Model};
 ghost use Rattle.cards.specs.Bounds.{depth};
 ghost use Rattle.cards.specs.Trees.{block_of};
 ghost use Rattle.cards.specs.Cards.{card_of};
-ghost use Rattle.working.specs.Works.{ranks_of, work_of, over, over_both, Fits, Few, Stays, Heads, after_rounds};
+ghost use Rattle.working.specs.Frames.{rounds_block, rounds_depth};
+ghost use Rattle.working.specs.Works.{ranks_of, work_of, below, over, over_both, Fits, Few, Stays, Heads, after_rounds};
 
-use crate::frame::Frame;
+use crate::frame::{Frame, Rounds};
 use crate::place::Place;
 use crate::work::{Frames, Fresh, Work};
 use cards::{Block, Card, Step};
@@ -16,18 +17,18 @@ use std::alloc::{AllocError, Global};
 #[derive(Clone, Copy)]
 pub(crate) enum Head<'c> {
     Nothing,
-    Next {
-        step: &'c Step,
-    },
-    Round {
-        line: u32,
-        left: u8,
-        body: &'c Block,
-        rest: &'c Block,
-    },
+    Next(&'c Step),
+    Round(Rounds<'c>),
 }
 
 impl Place {
+    // The ranks of a task's makers and its own.
+    pub fn ranks(&self) -> &[u8]
+        ensures { result.now ≡ ranks_of self.now }
+    {
+        &self.ranks[..self.depth as usize]
+    }
+
     // The place of the child of this rank.
     fn child(self, rank: u8) -> Place
         requires { self.depth < 8 }
@@ -69,7 +70,7 @@ impl<'c> Fresh<'c> {
 
 impl<'c> Work<'c> {
     // The work of a task that begins.
-    pub fn begin(fresh: Fresh<'c>, frames: Frames<'c>) -> Work<'c>
+    pub(crate) fn begin(fresh: Fresh<'c>, frames: Frames<'c>) -> Work<'c>
         ensures work { work_of result ≡ block_of fresh.entry.body.now }
         ensures place { result.place ≡ fresh.entry.place }
         ensures children { result.children ≡ 0 }
@@ -96,31 +97,21 @@ impl<'c> Work<'c> {
     {
         loop {
             match self.at {
-                Block::Then(step) => return Head::Next { step },
+                Block::Then(step) => return Head::Next(step),
                 Block::End => {
                     let Some(frame) = self.frames.pop() else {
                         return Head::Nothing;
                     };
                     match frame {
-                        Frame::After { rest } => self.at = rest,
-                        Frame::Again {
-                            line,
-                            left,
-                            body,
-                            rest,
-                        } => return Head::Round {
-                            line,
-                            left,
-                            body,
-                            rest,
-                        },
+                        Frame::After(rest) => self.at = rest,
+                        Frame::Again(rounds) => return Head::Round(rounds),
                     }
                 }
             }
         }
     }
 
-    // Goes on with the rest of the block.
+    // Goes on with the rest of the block. What fits depends on the frames that are there, so no block's type can tell it.
     pub(crate) fn pass(&mut self, rest: &'c Block)
         requires fits { Fits self.old (depth (block_of rest.now)) }
         requires few { Few self.old (over (block_of rest.now) self.old) }
@@ -138,27 +129,25 @@ impl<'c> Work<'c> {
         ensures work { work_of self.new ≡ over_both (block_of arm.now) (block_of rest.now) self.old }
         ensures stays { Stays self.old self.new }
     {
-        self.frames.push_reserved(Frame::After { rest });
+        self.frames.push_reserved(Frame::After(rest));
         self.at = arm;
     }
 
     // Begins one of the rounds left, or goes on where none is.
-    pub(crate) fn round(&mut self, line: u32, left: u8, body: &'c Block, rest: &'c Block)
-        requires fits { Fits self.old (max (suc (depth (block_of body.now))) (depth (block_of rest.now))) }
-        requires few { Few self.old (next line (Model.repeat left (block_of body.now)) (over (block_of rest.now) self.old)) }
-        ensures work { work_of self.new ≡ after_rounds line left (block_of body.now) (over (block_of rest.now) self.old) }
+    pub(crate) fn round(&mut self, rounds: Rounds<'c>)
+        requires fits { Fits self.old (rounds_depth rounds) }
+        requires few { Few self.old (rounds_block rounds (below self.old)) }
+        ensures work { work_of self.new ≡ after_rounds rounds.entry.line rounds.entry.left (block_of rounds.entry.body.now) (over (block_of rounds.entry.rest.now) self.old) }
         ensures stays { Stays self.old self.new }
     {
-        if left == 0 {
-            self.at = rest;
+        if rounds.left == 0 {
+            self.at = rounds.rest;
         } else {
-            self.frames.push_reserved(Frame::Again {
-                line,
-                left: left - 1,
-                body,
-                rest,
-            });
-            self.at = body;
+            self.frames.push_reserved(Frame::Again(Rounds {
+                left: rounds.left - 1,
+                ..rounds
+            }));
+            self.at = rounds.body;
         }
     }
 

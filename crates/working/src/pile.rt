@@ -3,36 +3,22 @@ ghost use Rattle.std.specs.Prelude.{◌+◌, ◌≤◌, [], ◌∷◌, length, I
 ghost use Rattle.cards.specs.Bounds.{step_bound};
 ghost use Rattle.working.specs.Serial.{Serial};
 ghost use Rattle.working.specs.Works.{work_of};
-ghost use Rattle.working.specs.Steps.{task_of};
+ghost use Rattle.working.specs.Steps.{model_of};
 ghost use Rattle.working.specs.Piles.{ran_of};
 
-use crate::fault::FaultKind;
-use crate::place::Place;
-use crate::record::Record;
+use crate::fault::TaskFault;
 use crate::step::Stepped;
-use crate::work::{Frames, Work};
+use crate::task::Task;
+use crate::work::Frames;
 use kinds::ValueKind;
 use std::alloc::{AllocError, Global};
 use std::mem;
 
-// A task that waits for its child.
-#[derive(Drop)]
-pub(crate) struct Task<'c> {
-    pub own: Record,
-    pub work: Work<'c>,
-}
-
-// All tasks are finished, or one faults.
-#[derive(Clone, Copy)]
-pub(crate) enum Stop {
-    Done,
-    Fault(FaultKind, u32, Place),
-}
-
-// Where working stops, the steps made and the tasks made.
+// Where working stops: all tasks are finished, or one faults. With the steps made and the tasks made. Not a `Worked`,
+// since the words stay with the caller.
 #[derive(Clone, Copy)]
 pub(crate) struct Ran {
-    pub stop: Stop,
+    pub stop: Result<(), TaskFault>,
     pub steps: u32,
     pub made: u32,
 }
@@ -46,44 +32,41 @@ pub(crate) fn work_off<'c, K: ValueKind>(
 ) -> Result<Ran, AllocError>
     requires objects { main.own.objects ≤ length store.old }
     requires steps { step_bound (work_of main.work) + 1 ≤ 1000000 }
-    ensures { IfOk result (λ q. Serial (K.ValueKind.kind kind.now) store.old (task_of main.entry.own main.entry.work ∷ []) 0 1 (ran_of q store.new)) }
+    ensures { IfOk result (λ q. Serial (K.ValueKind.kind kind.now) store.old (model_of main.entry ∷ []) 0 1 (ran_of q store.new)) }
 {
-    let mut own = main.own;
-    let mut work = main.work;
+    let mut task = main;
     let mut pile: Vec<Task<'c>> = Vec::new(heap);
     let mut steps = 0;
     let mut made = 1;
     loop {
-        match own.step(kind, &mut work, store) {
-            Stepped::Fault(fault, line) => {
-                let place = work.place();
+        let stepped = match task.step(kind, store) {
+            Ok(stepped) => stepped,
+            Err(fault) => {
+                let place = task.work.place();
                 return Ok(Ran {
-                    stop: Stop::Fault(fault, line, place),
+                    stop: Err(TaskFault { fault, place }),
                     steps,
                     made,
                 });
             }
-            Stepped::Went => steps += 1,
-            Stepped::Amended => steps += 1,
+        };
+        steps += 1;
+        match stepped {
+            Stepped::Went | Stepped::Amended => {}
             Stepped::Finished => {
-                steps += 1;
-                let Some(task) = pile.pop() else {
+                let Some(maker) = pile.pop() else {
                     return Ok(Ran {
-                        stop: Stop::Done,
+                        stop: Ok(()),
                         steps,
                         made,
                     });
                 };
-                own = task.own;
-                work = task.work;
+                task = maker;
             }
-            Stepped::Made(child, fresh) => {
-                steps += 1;
+            Stepped::Made(own, fresh) => {
                 made += 1;
-                let frames = Frames::new(heap)?;
-                let maker = mem::replace(&mut work, Work::begin(fresh, frames));
-                pile.push(Task { own, work: maker })?;
-                own = child;
+                let child = Task::begin(own, fresh, Frames::new(heap)?);
+                pile.push(mem::replace(&mut task, child))?;
             }
         }
     }

@@ -3,7 +3,8 @@ ghost use Rattle.std.specs.Prelude.{◌≡◌, ◌≤◌, length};
 
 use crate::declared::Declared;
 
-// A task's words, pointers and declarations; the first `objects` of the declarations count.
+// A task's words, pointers and declarations; the first `objects` of the declarations count. Fixed memory: a maker's are
+// copied to its children.
 #[derive(Clone, Copy)]
 pub struct Record {
     pub words: [u32; 4],

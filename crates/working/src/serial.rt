@@ -6,39 +6,23 @@ ghost use Rattle.working.specs.Records.{MainRecord};
 ghost use Rattle.working.specs.Results.{WorkedSerially};
 
 use crate::declared::Declared;
-use crate::fault::FaultKind;
-use crate::pile::{Stop, Task, work_off};
-use crate::place::Place;
+use crate::fault::TaskFault;
+use crate::pile::work_off;
 use crate::record::Record;
-use crate::work::{Frames, Fresh, Work};
-use cards::{Card, Level};
+use crate::task::Task;
+use crate::work::{Frames, Fresh};
+use cards::Card;
 use kinds::ValueKind;
 use std::alloc::{AllocError, Global};
 
-// The words of all objects, or the first fault.
-#[derive(Drop)]
-pub enum Outcome {
-    Words(Vec<u32>),
-    Fault {
-        kind: FaultKind,
-        line: u32,
-        place: Place,
-    },
-}
-
-// What a card comes to, with the steps made and the tasks made, main among them.
+// What a card comes to: the words of all objects, or the first fault. With the steps made and the tasks made, main
+// among them.
 #[derive(Drop)]
 pub struct Worked {
-    pub outcome: Outcome,
+    pub outcome: Result<Vec<u32>, TaskFault>,
     pub steps: u32,
     pub made: u32,
 }
-
-const EVERYTHING: Declared = Declared {
-    reads: Level::Deferred,
-    writes: Level::Deferred,
-    commutes: Level::Deferred,
-};
 
 impl Record {
     // Main's record: literal 0 in each word, object 0 in each pointer, everything deferred.
@@ -50,13 +34,14 @@ impl Record {
         Record {
             words: [zero; 4],
             pointers: [0; 4],
-            declared: [EVERYTHING; 16],
+            declared: [Declared::EVERYTHING; 16],
             objects,
         }
     }
 }
 
 // The words that the objects start with.
+#[tactic(auto, unfolding(crate::specs::Tasks::starting_words))]
 pub fn starting_words<K: ValueKind>(
     heap: Global,
     kind: &K,
@@ -64,12 +49,7 @@ pub fn starting_words<K: ValueKind>(
 ) -> Result<Vec<u32>, AllocError>
     ensures { IfOk result (λ v. v.items ≡ starting_words (K.ValueKind.kind kind.now) (card_of card.now)) }
 {
-    let mut store = Vec::new(heap);
-    let words = card.words();
-    for w in words {
-        store.push(kind.literal(*w))?;
-    }
-    Ok(store)
+    card.words().iter().map(|w| kind.literal(*w)).collect(heap)
 }
 
 // Works a card serially: a task that makes a child waits until the child is finished.
@@ -82,12 +62,9 @@ pub fn work_serially<K: ValueKind>(
 {
     let mut store = starting_words(heap, kind, card)?;
     let own = Record::main(kind, card);
-    let work = Work::begin(Fresh::main(card), Frames::new(heap)?);
-    let ran = work_off(heap, kind, Task { own, work }, &mut store)?;
-    let outcome = match ran.stop {
-        Stop::Done => Outcome::Words(store),
-        Stop::Fault(kind, line, place) => Outcome::Fault { kind, line, place },
-    };
+    let main = Task::begin(own, Fresh::main(card), Frames::new(heap)?);
+    let ran = work_off(heap, kind, main, &mut store)?;
+    let outcome = ran.stop.and(Ok(store));
     Ok(Worked {
         outcome,
         steps: ran.steps,

@@ -1,73 +1,87 @@
-// One step of a task.
+// How a task begins and steps.
 ghost use Rattle.std.specs.Prelude.{◌≡◌, ◌≤◌, length};
-ghost use Rattle.working.specs.Steps.{Answered, ChildSized, Keeps};
+ghost use Rattle.cards.specs.Trees.{block_of};
 ghost use Rattle.working.specs.Records.{declared_of};
+ghost use Rattle.working.specs.Works.{work_of};
+ghost use Rattle.working.specs.Steps.{model_of, fresh_task, Answered, ChildSized, Keeps};
 
 use crate::effect::Effect;
-use crate::fault::FaultKind;
+use crate::fault::Fault;
+use crate::frame::Rounds;
 use crate::moves::Head;
 use crate::record::Record;
-use crate::work::{Fresh, Work};
+use crate::task::Task;
+use crate::work::{Frames, Fresh, Work};
 use kinds::ValueKind;
 
-// A fault and its line; or the task went on, with other declarations or not, is finished, or made a child.
+// The task went on, with other declarations or not, is finished, or made a child.
 #[derive(Clone, Copy)]
 pub enum Stepped<'c> {
-    Fault(FaultKind, u32),
     Went,
     Amended,
     Finished,
     Made(Record, Fresh<'c>),
 }
 
-impl Record {
-    // One step of the task that this and its work are, on the objects' words.
-    pub fn step<'c, K: ValueKind>(
-        &mut self,
-        kind: &K,
-        work: &mut Work<'c>,
-        store: &mut [u32],
-    ) -> Stepped<'c>
-        requires { self.old.objects ≤ length store.old }
-        ensures answer { Answered (K.ValueKind.kind kind.now) self.old work.old store.old result self.new work.new store.new }
-        ensures objects { self.new.objects ≡ self.old.objects }
-        ensures kept { Keeps (declared_of self.old) result (declared_of self.new) }
-        ensures sized { ChildSized self.old.objects result }
+impl<'c> Task<'c> {
+    // A task that begins.
+    pub fn begin(own: Record, fresh: Fresh<'c>, frames: Frames<'c>) -> Task<'c>
+        ensures task { model_of result ≡ fresh_task own fresh.entry }
+        ensures own { result.own ≡ own }
+        ensures work { work_of result.work ≡ block_of fresh.entry.body.now }
+        ensures place { result.work.place ≡ fresh.entry.place }
+        ensures children { result.work.children ≡ 0 }
     {
-        match work.head() {
-            Head::Nothing => Stepped::Finished,
-            Head::Round {
-                line,
-                left,
-                body,
-                rest,
-            } => {
-                work.round(line, left, body, rest);
-                Stepped::Went
+        Task {
+            own,
+            work: Work::begin(fresh, frames),
+        }
+    }
+
+    // One step, on the objects' words. All tasks share these, so no task's type can tell that there are enough.
+    pub fn step<K: ValueKind>(&mut self, kind: &K, store: &mut [u32]) -> Result<Stepped<'c>, Fault>
+        requires { self.old.own.objects ≤ length store.old }
+        ensures answer { Answered (K.ValueKind.kind kind.now) self.old store.old result self.new store.new }
+        ensures objects { self.new.own.objects ≡ self.old.own.objects }
+        ensures kept { Keeps (declared_of self.old.own) result (declared_of self.new.own) }
+        ensures sized { ChildSized self.old.own.objects result }
+    {
+        match self.work.head() {
+            Head::Nothing => Ok(Stepped::Finished),
+            Head::Round(rounds) => {
+                self.work.round(rounds);
+                Ok(Stepped::Went)
             }
-            Head::Next { step } => match self.act(kind, store, step) {
-                Effect::Faults(fault, line) => Stepped::Fault(fault, line),
-                Effect::Passes => {
-                    work.pass(&step.rest);
-                    Stepped::Went
+            Head::Next(step) => {
+                let effect = self.own.act(kind, store, step)?;
+                match effect {
+                    Effect::Passes => {
+                        self.work.pass(&step.rest);
+                        Ok(Stepped::Went)
+                    }
+                    Effect::Amends => {
+                        self.work.pass(&step.rest);
+                        Ok(Stepped::Amended)
+                    }
+                    Effect::Enters(arm) => {
+                        self.work.enter(arm, &step.rest);
+                        Ok(Stepped::Went)
+                    }
+                    Effect::Repeats(left, body) => {
+                        self.work.round(Rounds {
+                            line: step.line,
+                            left,
+                            body,
+                            rest: &step.rest,
+                        });
+                        Ok(Stepped::Went)
+                    }
+                    Effect::Makes(child, body) => {
+                        let fresh = self.work.spawn(body, &step.rest);
+                        Ok(Stepped::Made(child, fresh))
+                    }
                 }
-                Effect::Amends => {
-                    work.pass(&step.rest);
-                    Stepped::Amended
-                }
-                Effect::Enters(arm) => {
-                    work.enter(arm, &step.rest);
-                    Stepped::Went
-                }
-                Effect::Repeats(count, body) => {
-                    work.round(step.line, count, body, &step.rest);
-                    Stepped::Went
-                }
-                Effect::Makes(child, body) => {
-                    let fresh = work.spawn(body, &step.rest);
-                    Stepped::Made(child, fresh)
-                }
-            },
+            }
         }
     }
 }

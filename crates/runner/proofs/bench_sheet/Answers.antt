@@ -1,11 +1,11 @@
-use Rattle.std.proofs.Common.{◌≡◌, ℕ, List, ◌++◌, length, take, Ok, Result, sym, ap, ◌∙◌, subst, arith}
+use Rattle.std.proofs.Common.{◌≡◌, ℕ, List, ◌++◌, length, take, Result, sym, ap, ◌∙◌, subst, arith}
 use lib.ListN.{length-replicate}
 use Rattle.std.proofs.lemmas.List.{take_at}
-use Rattle.std.proofs.lemmas.Result.{err_from_is_err_and}
+use Rattle.std.proofs.lemmas.Result.{IfOk-at_ok, err_from_is_err_and}
 use Rattle.kinds.specs.Kinds.{Kind}
 use Rattle.cards.specs.Cards.{card_of}
 use Rattle.sheets.specs.Sheets.{sheet_of}
-use Rattle.bench.specs.Views.{bench_of, IfGranted}
+use Rattle.bench.specs.Views.{bench_of}
 use Rattle.bench.specs.Ends.{WorksAll, Closes}
 use Rattle.bench.specs.Sheets.{SerialSheet, Writes}
 use Rattle.bench.proofs.Granted.{work_off_ok, close_ok}
@@ -38,10 +38,6 @@ unwrap-going-requires g c =
     let o = c.in_ok-bench.ensures in
     work_off_ok (card_of c.args.card.now) 0 o.bench o.state (works g (goal.at.unwrap-going-requires g c).After-work_off)
 
--- what a granted call gives
-given_by : {A E : Type 0} (r : Result A E) (x : A) (P : A → Type 0) → r ≡ Ok x → IfGranted r P → P x
-given_by r x P e h = subst (λ (y : Result _ _). IfGranted y P) e h
-
 module _ (g : given.Over) (c : After-close g) where
   abbrev worked : WorksAll (g.K.ValueKind.kind c.args.kind.now) g.S.Scheduler.choice g.S.Scheduler.next c.in_ok-bench.going c.args.scheduler.now c.in_ok-bench.bench c.work_off.result c.work_off.new.scheduler c.work_off.new.self
   worked = works g (goal.at.unwrap-closed-requires g c).After-work_off
@@ -54,12 +50,12 @@ module _ (g : given.Over) (c : After-close g) where
 pub unwrap-closed-requires : goal.unwrap-closed-requires
 unwrap-closed-requires g c =
     let w = worked g c in
-    close_ok (given_by c.work_off.result c.unwrap-going.result _ c.unwrap-going.ensures w.fits) (given_by c.work_off.result c.unwrap-going.result _ c.unwrap-going.ensures w.rests) (closes g c)
+    close_ok (IfOk-at_ok _ c.unwrap-going.ensures w.fits) (IfOk-at_ok _ c.unwrap-going.ensures w.rests) (closes g c)
 
 pub unwrap-length-requires : goal.unwrap-length-requires
 unwrap-length-requires g c =
     let d = closes g (goal.at.unwrap-length-requires g c).After-close in
-    c.sheet.ensures.short (given_by c.close.result c.unwrap-closed.result _ c.unwrap-closed.ensures d.fits)
+    c.sheet.ensures.short (IfOk-at_ok _ c.unwrap-closed.ensures d.fits)
     (omega (arith, ap length c.deref_mut.ensures.value, ap length (c.in_ok-sheet.ensures.items_if_clones_equal (λ y e. e)), length-replicate {A = ℕ} 512 0))
 
 pub returns : goal.returns

@@ -2,5 +2,5 @@ use Rattle.std.proofs.Common.{◌≡◌, [], replicate, vec_items, vec_len}
 use Rattle.lines.specs.Stored.{queues_of}
 use Rattle.lines.proofs.changes.empty_queues.Given as goal
 
-abbrev pub invariant-loop-o : goal.invariant-loop-o
-invariant-loop-o l = (vec_len l.queues ≡ l.o) × (queues_of (vec_items l.queues) ≡ replicate l.o [])
+abbrev pub invariant-loop : goal.invariant-loop
+invariant-loop l = (vec_len l.queues ≡ l.counter) × (queues_of (vec_items l.queues) ≡ replicate l.counter [])

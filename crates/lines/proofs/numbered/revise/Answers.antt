@@ -1,20 +1,7 @@
-use Rattle.std.proofs.Common.{◌≡◌, refl, ap, ◌∙◌, arith}
-use Rattle.lines.specs.Rows.{ahead}
-use Rattle.lines.proofs.Aheads.{set_at, set_missed}
+use Rattle.std.proofs.Common.{eqb, position, sym, ap, ◌∙◌}
+use Rattle.lines.proofs.Places.{set_none}
 use Rattle.lines.proofs.numbered.revise.Goals as goal
 
-pub returns-then-at-len : goal.returns-then-at-len
-returns-then-at-len g c =
-    let at : c.place-at.result ≡ ahead g.T.Numbered.known c.args.n c.args.row.now.items = c.place-at.ensures.is ∙ ap (ahead g.T.Numbered.known c.args.n) c.as_slice.ensures.value in
-    record {
-      items = set_at g.T.Numbered.known c.args.n c.args.x c.args.row.now.items c.place-at.result at;
-      capacity = refl;
-    }
-
-pub returns-else-at-len : goal.returns-else-at-len
-returns-else-at-len g c =
-    let at : c.place-at.result ≡ ahead g.T.Numbered.known c.args.n c.args.row.now.items = c.place-at.ensures.is ∙ ap (ahead g.T.Numbered.known c.args.n) c.as_slice.ensures.value in
-    record {
-      items = set_missed g.T.Numbered.known c.args.n c.args.x c.args.row.now.items (omega (arith, c.args.row.now.ok.0));
-      capacity = refl;
-    }
+pub returns-in_default-clause-items : goal.returns-in_default-clause-items
+returns-in_default-clause-items g c =
+    set_none g.T.Numbered.known c.args.n c.args.x c.args.row.now.items (ap (position (λ x. eqb (g.T.Numbered.known x) c.args.n)) (sym c.as_slice.ensures.value) ∙ sym c.place.ensures ∙ c.in_default.is)

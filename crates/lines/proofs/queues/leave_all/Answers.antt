@@ -1,24 +1,16 @@
-use Rattle.std.proofs.Common.{vec_items, refl, arith}
+use Rattle.std.proofs.Common.{get_or, ap, arith, length}
 use Rattle.lines.specs.Stored.{queues_of}
 use Rattle.lines.specs.Changes.{left}
-use Rattle.lines.proofs.Stores.{length_queues}
-use Rattle.lines.proofs.Rounds.{changed_none, changed_all, queue_more, left_past}
+use Rattle.lines.proofs.Rounds.{changed_back, queue_more, left_past}
 use Rattle.lines.proofs.queues.leave_all.Goals as goal
 
-pub loop-o-init : goal.loop-o-init
-loop-o-init c = (refl, changed_none (λ k. left c.args.n) (queues_of (vec_items c.args.queues.now)))
+pub loop-queue-preserved : goal.loop-queue-preserved
+loop-queue-preserved c =
+    queue_more (λ k. left c.args.n) (queues_of c.deref_mut-queue-items.result.now) c.loop-queue.queue-index c.loop-queue.queue-items c.leave.new.self (get_or c.loop-queue.queue-items c.loop-queue.queue-index c.queue-item.result)
+    (omega (arith, c.loop-queue.auto.queue-items)) (ap (get_or c.loop-queue.queue-items c.loop-queue.queue-index) c.queue-item.is) c.leave.ensures c.loop-queue.invariant
 
-pub loop-o-preserved : goal.loop-o-preserved
-loop-o-preserved c = (
-  c.loop-o.invariant.0,
-  queue_more (λ k. left c.args.n) (queues_of (vec_items c.args.queues.now)) c.loop-o.o c.loop-o.queues.items c.leave.new.self c.index_mut.result.now
-      (omega (arith, c.loop-o.queues.ok.0, c.loop-o.invariant.0)) c.index_mut.ensures.value c.leave.ensures c.loop-o.invariant.1,
-)
-
-pub returns : goal.returns
-returns c =
+pub returns-clause-items : goal.returns-clause-items
+returns-clause-items c =
     let v = c.args.queues.now in
-    record {
-      items = changed_all (λ k. left c.args.n) (queues_of (vec_items v)) c.loop-o.o (queues_of (vec_items c.loop-o.queues)) (omega (arith, length_queues (vec_items v), v.ok.0)) (λ k ge. left_past c.args.n) c.loop-o.invariant.1;
-      len = c.loop-o.invariant.0;
-    }
+    let e = c.deref_mut-queue-items.ensures.value in
+    changed_back (λ k. left c.args.n) (queues_of c.deref_mut-queue-items.result.now) v c.loop-queue.queue-items c.loop-queue.queue-index (ap queues_of e) (omega (arith, c.loop-queue.auto.queue-items, ap length e)) (omega (arith, ap length e)) (λ k ge. left_past c.args.n) c.loop-queue.invariant

@@ -18,7 +18,7 @@ pub read_block-returns-in-Some-close_block : goal.read_block-returns-in-Some-clo
 read_block-returns-in-Some-close_block t c =
     let told = rw c.in-Some.is at c.in_ok-said.ensures in
     record {
-      value = block_closes _ _ _ _ _ _ _ told.0 _ _ _ c.number-number.ensures c.in-Some-close_block.ensures told.1;
+      value = block_closes _ _ _ _ _ _ _ told.0 _ _ _ told.4 c.in-Some-close_block.ensures told.1;
       forward = forward_next _ _ _ told.0 told.2 told.3;
     }
 
@@ -27,7 +27,7 @@ read_block-returns-in_err-statement t c =
     let p = err_from_is_err_and c.from_residual-in_err-statement.result c.from_residual-in_err-statement.ensures.1 in
     let told = rw c.in-Some.is at c.in_ok-said.ensures in
     rw (p.1, p.2) (record {
-      value = fails_first _ _ _ _ _ _ _ told.0 _ _ _ _ told.2 told.3 c.number-number.ensures c.in_default-close_block.ensures told.1 statement_of _ c.read_statement.new.lines c.in_err-statement.ensures.value closed_block_of;
+      value = fails_first _ _ _ _ _ _ _ told.0 _ _ _ _ told.2 told.3 told.4 c.in_default-close_block.ensures told.1 statement_of _ c.read_statement.new.lines c.in_err-statement.ensures.value closed_block_of;
       forward = tt;
     })
 
@@ -37,7 +37,7 @@ read_block-returns-in_err-rest t c =
     let told = rw c.in-Some.is at c.in_ok-said.ensures in
     let said = c.in_ok-statement.ensures in
     rw (p.1, p.2) (record {
-      value = fails_then _ _ _ _ _ _ _ told.0 _ _ _ _ told.2 told.3 c.number-number.ensures c.in_default-close_block.ensures told.1 _ _ _ _ _ said.forward.header said.forward.objects said.forward.fewer said.value closed_block_of _ c.read_block.new.lines c.in_err-rest.ensures.value;
+      value = fails_then _ _ _ _ _ _ _ told.0 _ _ _ _ told.2 told.3 told.4 c.in_default-close_block.ensures told.1 _ _ _ _ _ said.forward.header said.forward.objects said.forward.fewer said.value closed_block_of _ c.read_block.new.lines c.in_err-rest.ensures.value;
       forward = tt;
     })
 
@@ -47,6 +47,6 @@ read_block-returns t c =
     let said = c.in_ok-statement.ensures in
     let rest = c.in_ok-rest.ensures in
     record {
-      value = rw c.in_ok-step.ensures.ok (reads_both _ _ _ _ _ _ _ told.0 _ _ _ _ told.2 told.3 c.number-number.ensures c.in_default-close_block.ensures told.1 _ _ _ _ _ said.forward.header said.forward.objects said.forward.fewer said.value _ _ _ _ rest.value);
+      value = rw c.in_ok-step.ensures.ok (reads_both _ _ _ _ _ _ _ told.0 _ _ _ _ told.2 told.3 told.4 c.in_default-close_block.ensures told.1 _ _ _ _ _ said.forward.header said.forward.objects said.forward.fewer said.value _ _ _ _ rest.value);
       forward = forward_both _ _ _ (forward_both _ _ _ (forward_next _ _ _ told.0 told.2 told.3) said.forward) rest.forward;
     }

@@ -1,33 +1,20 @@
 -- What is left to append is the text of the ranks not yet passed.
 use Rattle.std.proofs.Common.{◌≡◌, ℕ, ◌+◌, ◌<◌, List, ◌∷◌, ◌++◌, length, get_or, drop, decimal, sym, refl, ap, ◌∙◌}
-use Rattle.std.proofs.lemmas.List.{drop_more, drop_all}
+use Rattle.std.proofs.lemmas.List.{drop_more}
 use Rattle.sheets.specs.Sheets.{ranks_text}
-use Rattle.sheets.proofs.Steps.{nothing, then, stopped, whole_is}
-use Rattle.sheets.proofs.Turns.{begin, onward, finish}
+use Rattle.sheets.proofs.Steps.{then, stopped}
+use Rattle.sheets.proofs.Turns.{finish}
 use Rattle.sheets.proofs.append.ranks.Goals as goal
 
-next : (ns : List ℕ) (i n : ℕ) → i < length ns → n ≡ get_or ns i 0 → ranks_text (drop i ns) ≡ 46 ∷ (decimal n ++ ranks_text (drop (i + 1) ns))
-next ns i n h e = ap ranks_text (drop_more ns i 0 h) ∙ ap (λ x. 46 ∷ (decimal x ++ ranks_text (drop (i + 1) ns))) (sym e)
-
-pub loop-rank-init : goal.loop-rank-init
-loop-rank-init c = begin _ _
+next : (ns : List ℕ) (i : ℕ) (digits : List ℕ) → i < length ns → digits ≡ decimal (get_or ns i 0) → ranks_text (drop i ns) ≡ 46 ∷ (digits ++ ranks_text (drop (i + 1) ns))
+next ns i digits h e = ap ranks_text (drop_more ns i 0 h) ∙ ap (λ x. 46 ∷ (x ++ ranks_text (drop (i + 1) ns))) (sym e)
 
 pub returns-in_err-text : goal.returns-in_err-text
 returns-in_err-text c =
+    finish c.loop-rank.invariant (stopped _ (next _ _ _ c.loop-rank-test.true refl) c.from_residual.ensures.0 c.in_err-text.ensures)
+
+pub returns-in_err-text-2 : goal.returns-in_err-text-2
+returns-in_err-text-2 c =
     finish c.loop-rank.invariant
-    (stopped _ (next c.args.place.now c.loop-rank.rank-index _ c.loop-rank-test.true refl) c.from_residual.ensures.0 c.in_err-text.ensures)
-
-pub returns-in_err-decimal : goal.returns-in_err-decimal
-returns-in_err-decimal c =
-    finish c.loop-rank.invariant
-    (then (next c.args.place.now c.loop-rank.rank-index c.from.result c.loop-rank-test.true c.from.ensures) c.in_ok-text.ensures
-    (stopped _ refl c.from_residual-in_err-decimal.ensures.0 c.in_err-decimal.ensures))
-
-pub loop-rank-preserved : goal.loop-rank-preserved
-loop-rank-preserved c =
-    onward _ refl
-    (onward _ (next c.args.place.now c.loop-rank.rank-index c.from.result c.loop-rank-test.true c.from.ensures) c.loop-rank.invariant c.in_ok-text.ensures)
-    c.in_ok-decimal.ensures
-
-pub returns : goal.returns
-returns c = finish c.loop-rank.invariant (whole_is (ap ranks_text (drop_all _ c.args.place.now c.loop-rank-test.false)) (nothing _))
+    (then (next _ _ _ c.loop-rank-test.true c.format.ensures.text) c.in_ok-text.ensures
+    (stopped _ refl c.from_residual-in_err-text-2.ensures.0 c.in_err-text-2.ensures))

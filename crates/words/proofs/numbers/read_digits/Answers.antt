@@ -4,9 +4,9 @@ use Rattle.std.proofs.lemmas.Bool.Decides.{nat_tests}
 use Rattle.words.specs.Numbers.{reads}
 use Rattle.words.proofs.numbers.read_digits.Goals as goal
 
-pub returns-then-b-lt48 : goal.returns-then-b-lt48
+pub returns-then-not-is_ascii_digit : goal.returns-then-not-is_ascii_digit
 unfolding reads
-returns-then-b-lt48 c = grind (arith, nat_tests, at_drop_more (reads c.args.max c.loop-b.n) c.args.s.now c.loop-b.b-index 0 c.loop-b-test.true)
+returns-then-not-is_ascii_digit c = grind (arith, nat_tests, at_drop_more (reads c.args.max c.loop-b.n) c.args.s.now c.loop-b.b-index 0 c.loop-b-test.true)
 
 pub returns-then-n-from : goal.returns-then-n-from
 unfolding reads

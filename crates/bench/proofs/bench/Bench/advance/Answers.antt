@@ -1,4 +1,5 @@
-use Rattle.std.proofs.Common.{◌≡◌, ℕ, ◌+◌, true, false, length, refl, ap, ◌∙◌, arith}
+use Rattle.std.proofs.Common.{◌≡◌, ℕ, ◌+◌, true, false, length, is_ok, refl, ap, ◌∙◌, arith}
+use Rattle.std.specs.Int.{from_bool}
 use Rattle.working.specs.Tasks.{Task}
 use Rattle.runs.specs.Lines as Model
 use Rattle.runs.specs.Benches.{bench}
@@ -10,10 +11,9 @@ use Rattle.lines.specs.Lines.{state_of, line_of}
 use Rattle.lines.proofs.Offered.{turn_live, turn_made, turn_found}
 use Rattle.bench.specs.Tasks.{task_at}
 use Rattle.bench.specs.Views.{performed}
-use Rattle.bench.specs.Advances.{come_of, steps_of}
-use Rattle.bench.proofs.Steps.{some_step, step_of, one_step, within_after, fits_line, still_told, still_numbered, still_sized, out_steps, out_answers, out_falls}
+use Rattle.bench.proofs.Steps.{mapped, some_step, step_of, one_step, within_after, fits_line, still_told, still_numbered, still_sized, out_steps, out_answers, out_falls}
 use Rattle.bench.proofs.bench.Bench.advance.Given as given
-use Rattle.bench.proofs.bench.Bench.advance.Goals.{After-unwrap-progress, After-steps}
+use Rattle.bench.proofs.bench.Bench.advance.Goals.{After-unwrap-progress, After-from}
 use Rattle.bench.proofs.bench.Bench.advance.Goals as goal
 
 pub unwrap-progress-requires : goal.unwrap-progress-requires
@@ -41,8 +41,8 @@ follow-requires g c =
     fits_line _ c.args.n h.0 b.tasks c.step.new.self b.line b.told b.numbered b.objects (live g f) c.unwrap-progress.result h.1
 
 -- the steps that are counted
-counts : (g : given.Over) (c : After-steps g) → c.steps.result ≡ steps_of (come_of c.unwrap-progress.result)
-counts g c = c.steps.ensures ∙ ap steps_of c.of-performed.ensures
+counts : (g : given.Over) (c : After-from g) → c.from.result ≡ from_bool (is_ok c.unwrap-progress.result)
+counts g c = c.from.ensures ∙ ap from_bool c.is_ok.ensures.value
 
 pub invariant_of-self : goal.invariant_of-self
 invariant_of-self g c =
@@ -58,7 +58,7 @@ invariant_of-self g c =
       told = still_told _ c.args.n h.0 b.tasks s' b.line b.told b.numbered b.objects (live g f) a h.1 l' c.follow.ensures;
       numbered = still_numbered _ c.args.n h.0 b.tasks s' b.line b.told b.numbered b.objects (live g f) a h.1 l' c.follow.ensures;
       objects = still_sized _ c.args.n h.0 b.tasks s' b.line b.told b.numbered b.objects (live g f) a h.1 l' c.follow.ensures;
-      within = within_after b.steps c.steps.result _ _ (omega (arith, counts g (goal.at.invariant_of-self g c).After-steps, one_step a)) b.within falls;
+      within = within_after b.steps c.from.result _ _ (omega (arith, counts g (goal.at.invariant_of-self g c).After-from, one_step a)) b.within falls;
       room = b.room;
     }
 
@@ -72,9 +72,9 @@ returns g c =
     let a = c.unwrap-progress.result in
     let here = turn_found b.line (task_at (tasks_of b.tasks)) c.args.n (out g f) in
     record {
-      answer = ap performed c.of-performed.ensures ∙ out_answers _ c.args.n h.0 b.tasks s' b.line b.told b.numbered b.objects (live g f) a h.1 l' c.follow.ensures b.run b.steps b.closed Model.out here refl;
+      answer = ap performed (mapped _ c.unwrap-progress.result c.map.result c.map.ensures.cases) ∙ out_answers _ c.args.n h.0 b.tasks s' b.line b.told b.numbered b.objects (live g f) a h.1 l' c.follow.ensures b.run b.steps b.closed Model.out here refl;
       bench =
-          ap (λ (i : ℕ). bench b.run (store_of s') (line_of l' (task_at (tasks_of s'))) (length (tasks_of s')) (b.steps + i) b.closed) (counts g (goal.at.returns g c).After-steps)
+          ap (λ (i : ℕ). bench b.run (store_of s') (line_of l' (task_at (tasks_of s'))) (length (tasks_of s')) (b.steps + i) b.closed) (counts g (goal.at.returns g c).After-from)
           ∙ out_steps _ c.args.n h.0 b.tasks s' b.line b.told b.numbered b.objects (live g f) a h.1 l' c.follow.ensures b.run b.steps b.closed Model.out here refl;
       kind = refl;
     }

@@ -48,9 +48,9 @@ returns-in-Stuck g c =
     let w = c.in-Some.ensures t in
     filled
     (appended c.clear.new.self c.append_fault.new.out _ c.append_fault.result c.unwrap-in-Stuck.result c.unwrap-in-Stuck.ensures c.append_fault.ensures.appends c.clear.ensures.items)
-    (c.append_fault.ensures.short (simp length-take (omega (arith, p.short))))
-    (ap (fault_sheet c.in-Stuck.fault c.in-Stuck.line) (place_is (tasks_of b.tasks) n c.place.result c.place.ensures (made g (goal.at.returns-in-Stuck g c).In-Stuck) p c.unwrap-place.ensures)
-    ∙ sym (sheet_fault k b.run (store_of b.tasks) (line_of b.line t) (length (tasks_of b.tasks)) b.steps b.closed n (state_of b.line n) (t n) w.0 w.1 c.in-Stuck.fault c.in-Stuck.line (sym c.in-Stuck.ensures)))
+    (c.append_fault.ensures.short (omega (arith, ap length c.ranks.ensures, simp length-take at (ap length c.ranks.ensures), p.short)))
+    (ap (fault_sheet c.in-Stuck.fault.kind c.in-Stuck.fault.line) (c.ranks.ensures ∙ place_is (tasks_of b.tasks) n c.place.result c.place.ensures (made g (goal.at.returns-in-Stuck g c).In-Stuck) p c.unwrap-place.ensures)
+    ∙ sym (sheet_fault k b.run (store_of b.tasks) (line_of b.line t) (length (tasks_of b.tasks)) b.steps b.closed n (state_of b.line n) (t n) w.0 w.1 c.in-Stuck.fault (sym c.in-Stuck.ensures)))
     refl refl
 
 pub returns-in_default : goal.returns-in_default
@@ -61,5 +61,5 @@ returns-in_default g c =
     let k = g.K.ValueKind.kind b.kind.now in
     let w = c.in-Some.ensures t in
     filled c.clear.ensures.items (omega arith)
-    (sym (sheet_none k b.run (store_of b.tasks) (line_of b.line t) (length (tasks_of b.tasks)) b.steps b.closed n (state_of b.line n) (t n) w.0 w.1 (λ f l e. c.in_default.not-Stuck f l (c.state.ensures ∙ e))))
+    (sym (sheet_none k b.run (store_of b.tasks) (line_of b.line t) (length (tasks_of b.tasks)) b.steps b.closed n (state_of b.line n) (t n) w.0 w.1 (λ f e. c.in_default.not-Stuck f (c.state.ensures ∙ e))))
     refl refl

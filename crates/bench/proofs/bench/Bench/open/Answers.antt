@@ -5,8 +5,8 @@ use Rattle.bench.proofs.Histories.{promises}
 use Rattle.bench.proofs.Opened.{alone_declares, opened_history, first_told, first_numbered, first_sized, first_left, first_bench}
 use Rattle.bench.proofs.bench.Bench.open.Goals as goal
 
-pub declaring-requires : goal.declaring-requires
-declaring-requires g c =
+pub new-requires : goal.new-requires
+new-requires g c =
     let s = c.in_ok-tasks.tasks in
     omega (arith, s.objects, s.store.ok.0, alone_declares s _ c.declared.result.now c.in_ok-tasks.ensures.1 c.declared.ensures)
 

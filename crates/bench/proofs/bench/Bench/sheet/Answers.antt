@@ -1,5 +1,4 @@
-use Rattle.std.proofs.Common.{◌≡◌, ℕ, eqb, leb, List, ◌++◌, length, drop, sym, refl, ap, ◌∙◌, ap₂}
-use mathlib.Core.Option.{none}
+use Rattle.std.proofs.Common.{◌≡◌, ℕ, eqb, leb, List, ◌++◌, length, drop, sym, refl, ap, ◌∙◌, ap₂, None}
 use Rattle.std.proofs.lemmas.Bool.{and_parts}
 use Rattle.runs.specs.declared.refusal.Refusal.TheVariants.{BufferTooShort}
 use Rattle.runs.specs.Benches.{bench}
@@ -34,7 +33,7 @@ returns g c =
     let shut = (and_parts (eqb c.args.closed.run c.args.self.now.run) c.args.self.now.closed fit).1 in
     record {
       answers =
-          sheet_granted k z buffer b (own_refusal_is k (sheet z buffer) b none fit (unless_true _ BufferTooShort room))
+          sheet_granted k z buffer b (own_refusal_is k (sheet z buffer) b None fit (unless_true _ BufferTooShort room))
           ∙ ap₂ {C = Answer × List ℕ} (λ (i : ℕ) (xs : List ℕ). (Answer.written i, xs ++ drop i buffer)) (sym l) (sym text);
       back = tt;
       short = λ _ _. refl;

@@ -12,8 +12,8 @@ use Rattle.bench.specs.Ends.{TurnsOnce}
 use Rattle.bench.proofs.Worked.{working_none, working_more}
 use Rattle.bench.proofs.bench.Bench.turns.Goals as goal
 
-pub loop-row-init : goal.loop-row-init
-loop-row-init g c = (working_none c.requires.at_work, refl, omega arith)
+pub loop-offered-init : goal.loop-offered-init
+loop-offered-init g c = (working_none c.requires.at_work, refl, omega arith)
 
 -- the line is as it was, so what was offered still is, and the run is not settled
 still_offered : {K : Type 0} (b b₀ : Bench K) (ns : List ℕ) → b.line ≡ b₀.line → ((t : ℕ → Task) → Tells b₀.line t → ns ≡ offered (line_of b₀.line t) (line_of b₀.line t)) → ns ≡ offer (bench_of b)
@@ -26,21 +26,21 @@ still_unsettled b b₀ e h = subst (λ (l : Line). (t : ℕ → Task) → settle
 
 pub turn-requires : goal.turn-requires
 turn-requires g c =
-    let i = c.loop-row.invariant in
+    let i = c.loop-offered.invariant in
     record {
-      all = still_offered c.loop-row.self c.args.self.now _ i.1 c.offer-count.ensures.items;
-      unsettled = still_unsettled c.loop-row.self c.args.self.now i.1 c.requires.unsettled;
+      all = still_offered c.loop-offered.self c.args.self.now _ i.1 c.offer-offered.ensures.items;
+      unsettled = still_unsettled c.loop-offered.self c.args.self.now i.1 c.requires.unsettled;
       at_work = i.0.at_work;
     }
 
-pub loop-row-preserved : goal.loop-row-preserved
-loop-row-preserved g c =
-    let i = c.loop-row.invariant in
-    let t = subst (λ κ. TurnsOnce (g.K.ValueKind.kind κ.now) g.S.Scheduler.choice g.S.Scheduler.next c.loop-row.scheduler c.loop-row.self c.turn.new.scheduler c.turn.new.self) i.0.kind c.turn.ensures.turns in
-    (working_more i.0 (still_unsettled c.loop-row.self c.args.self.now i.1 c.requires.unsettled) t, c.turn.ensures.stays c.loop-row-test.true ∙ i.1, omega (arith, i.2, t.falls))
+pub loop-offered-preserved : goal.loop-offered-preserved
+loop-offered-preserved g c =
+    let i = c.loop-offered.invariant in
+    let t = subst (λ κ. TurnsOnce (g.K.ValueKind.kind κ.now) g.S.Scheduler.choice g.S.Scheduler.next c.loop-offered.scheduler c.loop-offered.self c.turn.new.scheduler c.turn.new.self) i.0.kind c.turn.ensures.turns in
+    (working_more i.0 (still_unsettled c.loop-offered.self c.args.self.now i.1 c.requires.unsettled) t, c.turn.ensures.stays c.loop-offered-test.true ∙ i.1, omega (arith, i.2, t.falls))
 
 pub returns : goal.returns
 returns g c =
-    let i = c.loop-row.invariant in
-    let t = subst (λ κ. TurnsOnce (g.K.ValueKind.kind κ.now) g.S.Scheduler.choice g.S.Scheduler.next c.loop-row.scheduler c.loop-row.self c.turn.new.scheduler c.turn.new.self) i.0.kind c.turn.ensures.turns in
-    record { works = working_more i.0 (still_unsettled c.loop-row.self c.args.self.now i.1 c.requires.unsettled) t; falls = omega (arith, i.2, t.falls) }
+    let i = c.loop-offered.invariant in
+    let t = subst (λ κ. TurnsOnce (g.K.ValueKind.kind κ.now) g.S.Scheduler.choice g.S.Scheduler.next c.loop-offered.scheduler c.loop-offered.self c.turn.new.scheduler c.turn.new.self) i.0.kind c.turn.ensures.turns in
+    record { works = working_more i.0 (still_unsettled c.loop-offered.self c.args.self.now i.1 c.requires.unsettled) t; falls = omega (arith, i.2, t.falls) }

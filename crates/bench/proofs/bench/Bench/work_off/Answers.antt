@@ -1,5 +1,4 @@
-use Rattle.std.proofs.Common.{◌≡◌, true, false, not, eqb, Ok, sym, refl, ap, ◌∙◌, subst}
-use mathlib.Core.Option.{Option, none}
+use Rattle.std.proofs.Common.{◌≡◌, true, false, not, eqb, Ok, sym, refl, ap, ◌∙◌, subst, None, Option}
 use Rattle.std.proofs.lemmas.Bool.{and_parts, and_from, not_from_false, not-true}
 use Rattle.runs.specs.declared.refusal.Refusal.{Refusal}
 use Rattle.runs.specs.declared.refusal.Refusal.TheVariants.{Unsettled}
@@ -51,7 +50,7 @@ returns g c =
     let k = g.K.ValueKind.kind c.args.self.now.kind.now in
     let call = going_of c.args.going in
     let same : c.in_ok-going-2.going ≡ c.args.going = c.in_ok-going-2.ensures.ok ∙ c.in_ok-going.ensures.ok in
-    let o = own_refusal_is k (work_off call (λ i. g.S.Scheduler.choice s)) b none (fit g f) (unless_true _ Unsettled (none_out g f)) in
+    let o = own_refusal_is k (work_off call (λ i. g.S.Scheduler.choice s)) b None (fit g f) (unless_true _ Unsettled (none_out g f)) in
     let a : WorkOffAnswers k g.row.S.Denot g.S.Scheduler.choice g.S.Scheduler.next call s b (Answer.going call) s' b'
     = subst (λ (x : Option Refusal). ByRefusal k g.row.S.Denot g.S.Scheduler.choice g.S.Scheduler.next x call s b (Answer.going call) s' b') (sym o) (refl, e.works) in
     subst (λ h. WorksAll k g.S.Scheduler.choice g.S.Scheduler.next c.args.going s c.args.self.now (Ok h) s' c.settle.new.self) (sym same)

@@ -1,4 +1,4 @@
-use Rattle.std.proofs.Common.{◌≡◌, ℕ, ◌<◌, List, length, set, vec_items, sym, refl, ap, ◌∙◌, subst, arith}
+use Rattle.std.proofs.Common.{◌≡◌, ℕ, ◌<◌, List, length, set, vec_items, sym, ap, ◌∙◌, subst, arith}
 use Rattle.lines.specs.declared.state.State.TheVariants.{Finished}
 use Rattle.lines.specs.Rows.{itself, without}
 use Rattle.lines.specs.Stored.{queues_of, members_at}
@@ -33,14 +33,15 @@ invariant_of-self c =
       flags = c.refresh.ensures;
     }
 
-pub returns : goal.returns
-returns c =
+pub returns-clause-line : goal.returns-clause-line
+returns-clause-line c =
+    let s = c.args.self.now in
+    λ t u but. ap (members_at (set s.states c.args.n Finished) u) c.take_out.ensures.items ∙ members_finished s.states t u (vec_items s.order) s.once c.args.n but Finished
+
+pub returns-clause-tells : goal.returns-clause-tells
+returns-clause-tells c =
     let s = c.args.self.now in
     let v = c.leave_all.new.queues in
     let lt : c.args.n < 256 = omega arith in
     let long : length (queues_of (vec_items v)) ≡ length (queues_of (vec_items s.queues)) = length_queues (vec_items v) ∙ sym v.ok.0 ∙ c.leave_all.ensures.len ∙ s.queues.ok.0 ∙ sym (length_queues (vec_items s.queues)) in
-    record {
-      line = λ t u but. ap (members_at (set s.states c.args.n Finished) u) c.take_out.ensures.items ∙ members_finished s.states t u (vec_items s.order) s.once c.args.n but Finished;
-      tells = λ t u but tells. telling_finished (holds s) c.args.n lt (queues_of (vec_items v)) long c.leave_all.ensures.items t u but tells;
-      sized = (c.leave_all.ensures.len, refl);
-    }
+    λ t u but tells. telling_finished (holds s) c.args.n lt (queues_of (vec_items v)) long c.leave_all.ensures.items t u but tells

@@ -1,5 +1,4 @@
-use Rattle.std.proofs.Common.{◌≡◌, true, false, vec_items, sym, refl, ap, ◌∙◌}
-use Rattle.std.proofs.lemmas.Bool.{both_ways}
+use Rattle.std.proofs.Common.{◌≡◌, true, vec_items, sym, refl, ap, ◌∙◌}
 use Rattle.lines.specs.declared.state.State.{State}
 use Rattle.lines.specs.declared.state.Event.TheVariants.{HandBack}
 use Rattle.lines.specs.States.{deed, is_out}
@@ -19,13 +18,7 @@ returns-in-Return c =
       sized = c.wait.ensures.sized;
     }
 
-pub returns-in_default : goal.returns-in_default
-returns-in_default c =
+pub returns-in_default-clause-granted : goal.returns-in_default-clause-granted
+returns-in_default-clause-granted c =
     let s = c.args.self.now in
-    record {
-      granted = λ t. sym (no_return (state_of s c.args.n) (λ e. c.in_default.not-Return (c.decide.ensures ∙ ap (λ (x : State). deed x HandBack) c.state.ensures ∙ e))) ∙ turn_is s.states (vec_items s.order) t s.unfinished c.args.n;
-      found = λ t (e : false ≡ true). absurd (both_ways false refl e);
-      line = λ t. refl;
-      tells = λ t h. h;
-      sized = (refl, refl);
-    }
+    λ t. sym (no_return (state_of s c.args.n) (λ e. c.in_default.not-Return (c.decide.ensures ∙ ap (λ (x : State). deed x HandBack) c.state.ensures ∙ e))) ∙ turn_is s.states (vec_items s.order) t s.unfinished c.args.n

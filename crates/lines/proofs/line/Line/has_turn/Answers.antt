@@ -1,5 +1,4 @@
-use Rattle.std.proofs.Common.{◌≡◌, true, false, vec_items, sym, refl, ap, ◌∙◌}
-use Rattle.std.proofs.lemmas.Bool.{both_ways}
+use Rattle.std.proofs.Common.{◌≡◌, true, false, vec_items, sym, ap, ◌∙◌}
 use Rattle.lines.specs.declared.state.State.{State}
 use Rattle.lines.specs.declared.state.Event.TheVariants.{Perform}
 use Rattle.lines.specs.States.{deed, is_out}
@@ -21,13 +20,8 @@ returns-in-Step c =
       live = λ _. out_live (state_of s c.args.n) out;
     }
 
-pub returns-in_default : goal.returns-in_default
-returns-in_default c =
+pub returns-in_default-clause-turn : goal.returns-in_default-clause-turn
+returns-in_default-clause-turn c =
     let s = c.args.self.now in
     let out : is_out (state_of s c.args.n) ≡ false = no_step (state_of s c.args.n) (λ e. c.in_default.not-Step (c.decide.ensures ∙ ap (λ (x : State). deed x Perform) c.state.ensures ∙ e)) in
-    record {
-      turn = λ t. sym out ∙ turn_is s.states (vec_items s.order) t s.unfinished c.args.n;
-      ready = λ t tells (e : false ≡ true). absurd (both_ways false refl e);
-      found = λ t (e : false ≡ true). absurd (both_ways false refl e);
-      live = λ (e : false ≡ true). absurd (both_ways false refl e);
-    }
+    λ t. sym out ∙ turn_is s.states (vec_items s.order) t s.unfinished c.args.n

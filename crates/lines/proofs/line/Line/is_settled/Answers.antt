@@ -1,11 +1,8 @@
 use Rattle.std.proofs.Common.{ap, ◌∙◌}
 use Rattle.lines.specs.States.{is_stuck}
 use Rattle.lines.specs.Lines.{state_of, line_of}
-use Rattle.lines.proofs.Standing.{settled_none, settled_some}
+use Rattle.lines.proofs.Standing.{settled_some}
 use Rattle.lines.proofs.line.Line.is_settled.Goals as goal
-
-pub returns-in-None : goal.returns-in-None
-returns-in-None c = λ t. settled_none (line_of c.args.self.now t) (c.in-None.ensures t)
 
 pub returns-in-Some : goal.returns-in-Some
 returns-in-Some c = λ t.

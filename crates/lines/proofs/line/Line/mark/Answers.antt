@@ -1,4 +1,4 @@
-use Rattle.std.proofs.Common.{◌<◌, List, length, vec_items, sym, refl, ap, ◌∙◌, subst, arith}
+use Rattle.std.proofs.Common.{◌<◌, List, length, vec_items, sym, ap, ◌∙◌, subst, arith}
 use Rattle.lines.specs.declared.state.State.{State}
 use Rattle.lines.specs.Stored.{queues_of, members_at}
 use Rattle.lines.proofs.Queued.{queued_stored}
@@ -27,15 +27,14 @@ invariant_of-self c =
       flags = s.flags;
     }
 
-pub returns : goal.returns
-returns c =
+pub returns-clause-line : goal.returns-clause-line
+returns-clause-line c =
     let s = c.args.self.now in
     let lt : c.args.n < length s.states = omega (arith, s.numbers) in
+    λ t u but. ap (λ (l : List State). members_at l u (vec_items s.order)) c.put_state.ensures ∙ members_marked s.states t u (vec_items s.order) s.once c.args.n but c.args.state lt (s.unfinished c.args.n)
+
+pub returns-clause-tells : goal.returns-clause-tells
+returns-clause-tells c =
+    let s = c.args.self.now in
     let qs = queues_of (vec_items s.queues) in
-    record {
-      line = λ t u but. ap (λ (l : List State). members_at l u (vec_items s.order)) c.put_state.ensures ∙ members_marked s.states t u (vec_items s.order) s.once c.args.n but c.args.state lt (s.unfinished c.args.n);
-      tells = λ t u but same tells. subst (λ (l : List State). Telling qs l u) (sym c.put_state.ensures) (telling_marked qs s.states t u c.args.n c.args.state c.requires.stays but same tells);
-      sized = (refl, refl);
-      states = c.put_state.ensures;
-      kept = (refl, refl);
-    }
+    λ t u but same tells. subst (λ (l : List State). Telling qs l u) (sym c.put_state.ensures) (telling_marked qs s.states t u c.args.n c.args.state c.requires.stays but same tells)

@@ -5,11 +5,8 @@ use Rattle.lines.proofs.Readies.{offered_is}
 use Rattle.lines.proofs.Holds.{holds, told}
 use Rattle.lines.proofs.line.Line.offer.Goals as goal
 
-pub returns : goal.returns
-returns c =
+pub returns-clause-items : goal.returns-clause-items
+returns-clause-items c = λ t tells.
     let s = c.args.self.now in
-    record {
-      items = λ t tells. c.fill.ensures.items ∙ ap (filter (offers s.states s.clear)) c.deref.ensures.value
-          ∙ offered_is (queues_of (vec_items s.queues)) s.states (vec_items s.order) t s.clear s.made (holds s).queued s.once (told (holds s) t tells) s.unfinished s.known s.few s.flags;
-      few = c.fill.ensures.few;
-    }
+    c.fill.ensures.items ∙ ap (filter (offers s.states s.clear)) c.deref.ensures.value
+    ∙ offered_is (queues_of (vec_items s.queues)) s.states (vec_items s.order) t s.clear s.made (holds s).queued s.once (told (holds s) t tells) s.unfinished s.known s.few s.flags

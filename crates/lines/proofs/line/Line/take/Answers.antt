@@ -1,5 +1,4 @@
-use Rattle.std.proofs.Common.{◌≡◌, ℕ, ◌<◌, Bool, true, false, ◌&&◌, get_or, vec_items, sym, refl, ap, ◌∙◌, arith}
-use Rattle.std.proofs.lemmas.Bool.{cond-true, cond-false, both_ways}
+use Rattle.std.proofs.Common.{◌≡◌, ℕ, ◌<◌, Bool, true, false, ◌&&◌, get_or, vec_items, sym, ap, ◌∙◌, arith}
 use Rattle.working.specs.Tasks.{Task}
 use Rattle.runs.specs.Events.{can_take}
 use Rattle.lines.specs.declared.line.Line.{Line}
@@ -30,35 +29,21 @@ waits c t tells =
     ∙ ap (λ (a : Bool). a && clear_in (queues_of (vec_items s.queues)) c.args.n) (sym (given c))
     ∙ takes s c.args.n t tells
 
-pub returns-then-clear : goal.returns-then-clear
-returns-then-clear c =
-    record {
-      granted = waits (goal.at.returns-then-clear c).In-Give;
-      found = λ t _. found_waiting c.args.self.now.states (vec_items c.args.self.now.order) t c.args.self.now.unfinished c.args.n (given (goal.at.returns-then-clear c).In-Give);
-      line = λ t. c.mark.ensures.line t t (λ k f. refl) ∙ sym (cond-true (get_or c.args.self.now.clear c.args.n false) _ _ c.if-clear.true);
-      tells = λ t. c.mark.ensures.tells t t (λ k f. refl) refl;
-      sized = c.mark.ensures.sized;
-    }
+pub returns-then-clear-clause-granted : goal.returns-then-clear-clause-granted
+returns-then-clear-clause-granted c =
+    waits (goal.at.returns-then-clear-clause-granted c).In-Give
 
-pub returns-else-clear : goal.returns-else-clear
-returns-else-clear c =
-    record {
-      granted = waits (goal.at.returns-else-clear c).In-Give;
-      found = λ t e. absurd (both_ways (get_or c.args.self.now.clear c.args.n false) c.if-clear.false e);
-      line = λ t. sym (cond-false (get_or c.args.self.now.clear c.args.n false) _ _ c.if-clear.false);
-      tells = λ t h. h;
-      sized = (refl, refl);
-    }
+pub returns-then-clear-clause-found : goal.returns-then-clear-clause-found
+returns-then-clear-clause-found c =
+    λ t _. found_waiting c.args.self.now.states (vec_items c.args.self.now.order) t c.args.self.now.unfinished c.args.n (given (goal.at.returns-then-clear-clause-found c).In-Give)
 
-pub returns-in_default : goal.returns-in_default
-returns-in_default c =
+pub returns-else-clear-clause-granted : goal.returns-else-clear-clause-granted
+returns-else-clear-clause-granted c =
+    waits (goal.at.returns-else-clear-clause-granted c).In-Give
+
+pub returns-in_default-clause-granted : goal.returns-in_default-clause-granted
+returns-in_default-clause-granted c =
     let s = c.args.self.now in
-    record {
-      granted = λ t tells.
-          ap (λ (a : Bool). a && clear_in (queues_of (vec_items s.queues)) c.args.n) (sym (no_give (state_of s c.args.n) (λ e. c.in_default.not-Give (c.decide.ensures ∙ ap (λ (x : State). deed x Take) c.state.ensures ∙ e))))
-          ∙ takes s c.args.n t tells;
-      found = λ t (e : false ≡ true). absurd (both_ways false refl e);
-      line = λ t. refl;
-      tells = λ t h. h;
-      sized = (refl, refl);
-    }
+    λ t tells.
+    ap (λ (a : Bool). a && clear_in (queues_of (vec_items s.queues)) c.args.n) (sym (no_give (state_of s c.args.n) (λ e. c.in_default.not-Give (c.decide.ensures ∙ ap (λ (x : State). deed x Take) c.state.ensures ∙ e))))
+    ∙ takes s c.args.n t tells

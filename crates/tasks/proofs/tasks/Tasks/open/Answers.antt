@@ -1,18 +1,19 @@
-use Rattle.std.proofs.Common.{◌≡◌, ℕ, List, [], ◌∷◌, ◌++◌, length, replicate, sym, ap, ◌∙◌, arith}
+use Rattle.std.proofs.Common.{◌≡◌, ℕ, List, [], ◌∷◌, ◌++◌, length, map, replicate, sym, ap, ◌∙◌, arith}
 use Rattle.std.proofs.lemmas.List.{length-map}
 use Rattle.kinds.specs.Kinds.{Kind}
 use Rattle.cards.specs.Bounds.{task_bound}
 use Rattle.cards.specs.Code.{Block, Card}
 use Rattle.cards.specs.Trees.{block_of}
 use Rattle.working.specs.declared.record.Record.{Record}
-use Rattle.working.specs.declared.work.Work.{Work}
+use Rattle.working.specs.declared.task.Task.{Task}
 use Rattle.working.specs.declared.work.Fresh.{Fresh}
-use Rattle.working.specs.Tasks.{Task, main, starting_words}
+use Rattle.working.specs.Tasks as Tasks
+use Rattle.working.specs.Tasks.{main, starting_words}
+use Rattle.working.specs.Steps.{model_of}
 use Rattle.working.specs.Works.{ranks_of}
 use Rattle.working.specs.Records.{task_with, MainRecord}
 use Rattle.working.specs.Steps.{fresh_task}
 use Rattle.tasks.specs.Rooms.{to_make, sizes}
-use Rattle.tasks.specs.Views.{together}
 use Rattle.tasks.proofs.tasks.Tasks.open.Given as given
 use Rattle.tasks.proofs.tasks.Tasks.open.Goals as goal
 use Rattle.tasks.proofs.tasks.Tasks.open.Goals.{In_ok-starting_words}
@@ -29,15 +30,12 @@ pub invariant_of-tasks : goal.invariant_of-tasks
 unfolding to_make sizes
 invariant_of-tasks g c =
     let r = c.in_ok-with_capacity.ensures in
-    let w = c.in_ok-with_capacity-2.ensures in
     let n = c.in_ok-starting_words.field-0.len in
     record {
       objects = omega (arith, c.args.card.now.objects, words g (goal.at.invariant_of-tasks g c).In_ok-starting_words);
       sized = ap sizes r.items ∙ sym (ap (λ (x : ℕ). replicate x n) r.len);
-      level = w.len ∙ sym r.len;
-      few = omega (arith, r.len, ap to_make w.items);
-      records_room = r.capacity;
-      works_room = w.capacity;
+      few = omega (arith, r.len, ap to_make r.items);
+      tasks_room = r.capacity;
       frames_room = omega (arith, c.in_ok-room.ensures);
     }
 
@@ -46,24 +44,20 @@ unfolding to_make
 add-requires g c =
     let d = c.args.card.now in
     let r = c.in_ok-with_capacity.ensures in
-    let w = c.in_ok-with_capacity-2.ensures in
     record {
-      room = omega (arith, r.len, ap to_make w.items, d.tasks, ap task_bound c.main-2.ensures.body);
+      room = omega (arith, r.len, ap to_make r.items, d.tasks, ap task_bound c.main-2.ensures.body);
       sized = c.main.ensures.objects ∙ sym d.words.ok.0 ∙ sym (words g (goal.at.add-requires g c).In_ok-starting_words);
     }
 
-alone : (k : Kind) (d : Card) (rs : List Record) (ws : List Work) (own : Record) (f : Fresh) → rs ≡ [] → MainRecord k d own → block_of f.body.now ≡ d.body → ranks_of f.place ≡ [] → together rs ws ++ fresh_task own f ∷ [] ≡ main k d ∷ []
-unfolding together
-alone k d rs ws own f e h b p =
-    ap (λ (l : List Record). together l ws ++ fresh_task own f ∷ []) e
+alone : (k : Kind) (d : Card) (ts : List Task) (own : Record) (f : Fresh) → ts ≡ [] → MainRecord k d own → block_of f.body.now ≡ d.body → ranks_of f.place ≡ [] → map model_of ts ++ fresh_task own f ∷ [] ≡ main k d ∷ []
+alone k d ts own f e h b p =
+    ap (λ (l : List Task). map model_of l ++ fresh_task own f ∷ []) e
     ∙ ap (λ (x : List ℕ). task_with own x 0 (block_of f.body.now) ∷ []) p
     ∙ ap (λ (x : Block). task_with own [] 0 x ∷ []) b
-    ∙ ap (λ (t : Task). t ∷ []) h.task
+    ∙ ap (λ (t : Tasks.Task). t ∷ []) h.task
 
 pub returns : goal.returns
 returns g c =
     let a = c.add.ensures in
     let f = c.main-2.ensures in
-    let rs = c.in_ok-with_capacity.field-0.items in
-    let ws = c.in_ok-with_capacity-2.field-0.items in
-    (a.words ∙ c.in_ok-starting_words.ensures, a.tasks ∙ alone _ _ rs ws c.main.result c.main-2.result c.in_ok-with_capacity.ensures.items c.main.ensures f.body f.place)
+    (a.words ∙ c.in_ok-starting_words.ensures, a.tasks ∙ alone _ _ c.in_ok-with_capacity.field-0.items c.main.result c.main-2.result c.in_ok-with_capacity.ensures.items c.main.ensures f.body f.place)

@@ -1,32 +1,25 @@
-use Rattle.std.proofs.Common.{◌≡◌, List, length, take, replicate, sym, refl, ap, ◌∙◌, rules}
-use Rattle.working.specs.Tasks.{nothing}
+use Rattle.std.proofs.Common.{◌≡◌, List, take, replicate, sym, refl, ap, ◌∙◌, rules}
 use Rattle.std.proofs.lemmas.List.{take_at}
-use Rattle.working.specs.declared.declared.Declared.{Declared}
+use Rattle.std.proofs.lemmas.Result.{err_from_is_err_and}
 use Rattle.cards.specs.declared.lines.Declaration.{Declaration}
+use Rattle.working.specs.declared.record.Record.{Record}
+use Rattle.working.specs.Tasks.{Declared, nothing}
 use Rattle.working.specs.Requests.{accepted, endowed}
-use Rattle.working.specs.Records.{declared_of}
-use Rattle.working.proofs.Sections.{take_nothing, length_filled}
+use Rattle.working.specs.Records.{declared_of, child_section}
+use Rattle.working.proofs.Sections.{take_nothing}
 use Rattle.working.proofs.record.Record.child.Goals as goal
 
-pub returns-in-Some : goal.returns-in-Some
-returns-in-Some c =
-    let w = c.args.self.now in
-    ap (λ (ds : List Declared). endowed w.pointers (declared_of w) ds c.args.section.now.lines.items) (sym (take_nothing w.declared w.objects w.few w.wide))
-    ∙ ap (λ (xs : List Declaration). endowed w.pointers (declared_of w) (take w.objects (replicate 16 nothing)) xs) (sym c.deref.ensures.value)
-    ∙ c.in-Some.ensures
+-- what is endowed, where ms are the declarations of the maker
+section_by : (w : Record) (ms : List Declared) (xs : List Declaration) → ms ≡ declared_of w → child_section w xs ≡ endowed w.pointers ms (take w.objects (replicate 16 nothing)) xs
+section_by w ms xs e =
+    ap (λ (ds : List Declared). endowed w.pointers (declared_of w) ds xs) (sym (take_nothing w.declared w.objects w.few w.wide))
+    ∙ ap (λ (y : List Declared). endowed w.pointers y (take w.objects (replicate 16 nothing)) xs) (sym e)
 
-pub returns-in-None : goal.returns-in-None
-returns-in-None c =
-    let w = c.args.self.now in
-    let k = c.endow.auto.ds in (
-      ap (λ (ds : List Declared). endowed w.pointers (declared_of w) ds c.args.section.now.lines.items) (sym (take_nothing w.declared w.objects w.few w.wide))
-          ∙ ap (λ (xs : List Declaration). endowed w.pointers (declared_of w) (take w.objects (replicate 16 nothing)) xs) (sym c.deref.ensures.value)
-          ∙ c.in-None.ensures
-          ∙ ap accepted (sym (take_at c.endow.new.ds _ w.objects (search rules))),
-      refl,
-      refl,
-      refl,
-    )
+pub returns-in_err-endow : goal.returns-in_err-endow
+returns-in_err-endow c =
+    let p = err_from_is_err_and c.from_residual.result c.from_residual.ensures.1 in
+    rw (p.1, p.2) (section_by c.args.self.now _ _ c.declared.ensures ∙ c.in_err-endow.ensures)
 
-pub invariant_of-result : goal.invariant_of-result
-invariant_of-result c = let k : length c.endow.new.ds ≡ c.args.self.now.objects = search rules in record { few = c.args.self.now.few; wide = length_filled c.endow.new.ds (replicate 16 nothing) c.args.self.now.objects k c.args.self.now.few refl }
+pub returns : goal.returns
+returns c =
+    (section_by c.args.self.now _ _ c.declared.ensures ∙ c.in_ok-endow.ensures ∙ ap accepted (sym (take_at c.endow.new.ds _ c.args.self.now.objects (search rules))), refl, refl, refl)

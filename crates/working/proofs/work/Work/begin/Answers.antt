@@ -1,4 +1,4 @@
-use Rattle.std.proofs.Common.{◌≡◌, List, refl, ap, ◌∙◌, arith}
+use Rattle.std.proofs.Common.{◌≡◌, List, ap, ◌∙◌, arith}
 use Rattle.cards.specs.Code.{Block, ◌before◌, end}
 use Rattle.cards.specs.Bounds.{task_bound}
 use Rattle.working.specs.declared.frame.Frame.{Frame}
@@ -22,5 +22,5 @@ invariant_of-result c =
       few = omega (arith, c.args.fresh.few, ap task_bound (alone x fs c.args.frames.empty));
     }
 
-pub returns : goal.returns
-returns c = record { work = alone (block_of c.args.fresh.body.now) c.args.frames.frames.items c.args.frames.empty; place = refl; children = refl }
+pub returns-clause-work : goal.returns-clause-work
+returns-clause-work c = alone (block_of c.args.fresh.body.now) c.args.frames.frames.items c.args.frames.empty

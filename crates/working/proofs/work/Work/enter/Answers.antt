@@ -1,4 +1,4 @@
-use Rattle.std.proofs.Common.{refl, ap, arith}
+use Rattle.std.proofs.Common.{ap, arith}
 use Rattle.cards.specs.Code.{Block, ◌before◌, end}
 use Rattle.cards.specs.Bounds.{task_bound}
 use Rattle.working.specs.declared.frame.Frame.TheVariants.{After}
@@ -19,10 +19,7 @@ invariant_of-self c =
       few = omega (arith, c.requires.few, ap (λ (b : Block). task_bound (x before b)) (stack_push _ w.frames.items f p.items end));
     }
 
-pub returns : goal.returns
-returns c =
+pub returns-clause-work : goal.returns-clause-work
+returns-clause-work c =
     let w = c.args.self.now in
-    record {
-      work = ap (λ (b : Block). block_of c.args.arm.now before b) (stack_push _ w.frames.items (After c.args.rest) c.push_reserved.ensures.items end);
-      stays = (refl, refl);
-    }
+    ap (λ (b : Block). block_of c.args.arm.now before b) (stack_push _ w.frames.items (After c.args.rest) c.push_reserved.ensures.items end)

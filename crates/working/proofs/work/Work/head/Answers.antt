@@ -34,17 +34,14 @@ loop-self-preserved c =
     let b = popped (block_of w.at.now) w.frames.items v.items f (ap block_of c.in-End.is) p.items ∙ ap (λ (y : Frame). frame_block y (stack v.items end)) c.in-After.is in
     (sym b ∙ c.loop-self.invariant.0, c.loop-self.invariant.1)
 
-pub returns-in_default : goal.returns-in_default
-returns-in_default c =
+pub returns-in_default-clause-heads : goal.returns-in_default-clause-heads
+returns-in_default-clause-heads c =
     let w = c.loop-self.self in
     let v = c.pop.new.self in
     let x = block_of w.at.now in
     let e = ap block_of c.in-End.is in
     let p = c.in_default.ensures in
-    record {
-      heads = (sym c.loop-self.invariant.0 ∙ all_past x w.frames.items e (nil_from_length w.frames.items (sym w.frames.ok.0 ∙ p.cases.0)), all_past x v.items e (nil_from_length v.items (sym v.ok.0 ∙ p.cases.1)));
-      stays = c.loop-self.invariant.1;
-    }
+    (sym c.loop-self.invariant.0 ∙ all_past x w.frames.items e (nil_from_length w.frames.items (sym w.frames.ok.0 ∙ p.cases.0)), all_past x v.items e (nil_from_length v.items (sym v.ok.0 ∙ p.cases.1)))
 
 pub invariant_of-self-in-Again-1 : goal.invariant_of-self-in-Again-1
 invariant_of-self-in-Again-1 c =
@@ -62,8 +59,8 @@ invariant_of-self-in-Again-1 c =
       few = omega (arith, w.few, ap task_bound b, task_bound_frame f (stack v.items end), task_bound_end x (stack v.items end) (ap block_of c.in-End.is));
     }
 
-pub returns-in-Again : goal.returns-in-Again
-returns-in-Again c =
+pub returns-in-Again-clause-heads : goal.returns-in-Again-clause-heads
+returns-in-Again-clause-heads c =
     let w = c.loop-self.self in
     let v = c.pop.new.self in
     let p = c.in-Some.ensures in
@@ -71,7 +68,4 @@ returns-in-Again c =
     let d = deepest_pop w.frames.items v.items f p.items w.place.depth v.len v.ok.0 w.frames_fit in
     let e = ap (λ (y : Frame). frame_depth y) c.in-Again.is in
     let b = popped (block_of w.at.now) w.frames.items v.items f (ap block_of c.in-End.is) p.items ∙ ap (λ (y : Frame). frame_block y (stack v.items end)) c.in-Again.is in
-    record {
-      heads = (sym c.loop-self.invariant.0 ∙ b, omega (arith, d.1, e), omega (arith, w.few, ap task_bound c.loop-self.invariant.0, c.loop-self.invariant.1.1));
-      stays = c.loop-self.invariant.1;
-    }
+    (sym c.loop-self.invariant.0 ∙ b, omega (arith, d.1, e), omega (arith, w.few, ap task_bound c.loop-self.invariant.0, c.loop-self.invariant.1.1))

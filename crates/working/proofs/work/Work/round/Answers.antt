@@ -20,35 +20,35 @@ fewer l (suc k) x b h = let e : suc k - 1 ≡ k = omega arith in omega (arith, t
 pub invariant_of-self : goal.invariant_of-self
 invariant_of-self c =
     let w = c.args.self.now in
-    let r = block_of c.args.rest.now before stack w.frames.items end in
+    let q = c.args.rounds in
+    let r = block_of q.rest.now before stack w.frames.items end in
     record {
       fits = omega (arith, c.requires.fits);
       frames_fit = w.frames_fit;
       room = w.room;
-      few = omega (arith, c.requires.few, task_bound_rest c.args.line c.args.left (block_of c.args.body.now) r);
+      few = omega (arith, c.requires.few, task_bound_rest q.line q.left (block_of q.body.now) r);
     }
 
-pub invariant_of-self-else-left-eq0 : goal.invariant_of-self-else-left-eq0
-invariant_of-self-else-left-eq0 c =
+pub invariant_of-self-else-rounds-eq0 : goal.invariant_of-self-else-rounds-eq0
+invariant_of-self-else-rounds-eq0 c =
     let w = c.args.self.now in
+    let q = c.args.rounds in
     let p = c.push_reserved.ensures in
-    let f = Again c.args.line (c.args.left - 1) c.args.body c.args.rest in
-    let x = block_of c.args.body.now in
-    let r = block_of c.args.rest.now before stack w.frames.items end in
+    let f = Again record q { left = q.left - 1 } in
+    let x = block_of q.body.now in
+    let r = block_of q.rest.now before stack w.frames.items end in
     record {
       fits = omega (arith, c.requires.fits, p.len);
       frames_fit = deepest_push _ w.frames.items f p.items w.place.depth w.frames.len w.frames.ok.0 w.frames_fit c.requires.fits;
       room = omega (arith, p.capacity, w.room);
-      few = omega (arith, c.requires.few, ap (λ (b : Block). task_bound (x before b)) (stack_push _ w.frames.items f p.items end), fewer c.args.line c.args.left x r (λ e. omega arith));
+      few = omega (arith, c.requires.few, ap (λ (b : Block). task_bound (x before b)) (stack_push _ w.frames.items f p.items end), fewer q.line q.left x r (λ e. omega arith));
     }
 
-pub returns-else-left-eq0 : goal.returns-else-left-eq0
-returns-else-left-eq0 c =
+pub returns-else-rounds-eq0-clause-work : goal.returns-else-rounds-eq0-clause-work
+returns-else-rounds-eq0-clause-work c =
     let w = c.args.self.now in
-    let f = Again c.args.line (c.args.left - 1) c.args.body c.args.rest in
-    let x = block_of c.args.body.now in
-    let r = block_of c.args.rest.now before stack w.frames.items end in
-    record {
-      work = ap (λ (b : Block). x before b) (stack_push _ w.frames.items f c.push_reserved.ensures.items end) ∙ some_rounds c.args.line c.args.left x r (λ e. omega arith);
-      stays = (refl, refl);
-    }
+    let q = c.args.rounds in
+    let f = Again record q { left = q.left - 1 } in
+    let x = block_of q.body.now in
+    let r = block_of q.rest.now before stack w.frames.items end in
+    ap (λ (b : Block). x before b) (stack_push _ w.frames.items f c.push_reserved.ensures.items end) ∙ some_rounds q.line q.left x r (λ e. omega arith)

@@ -1,8 +1,0 @@
-use Rattle.std.proofs.lemmas.Slice.Eq.{bytes_eq-Decides, slice_eq-Decides}
-use Rattle.std.proofs.lemmas.Bool.Decides.{same_from_decides, Decides-eqb}
-use Rattle.words.specs.Reading.{is_word}
-use Rattle.words.proofs.reading.same.Goals as goal
-
-pub returns : goal.returns
-unfolding is_word
-returns c = same_from_decides _ _ (slice_eq-Decides Decides-eqb c.args.a.now c.args.b.now _ c.eq.ensures) (bytes_eq-Decides c.args.a.now c.args.b.now)
