@@ -1,6 +1,5 @@
 -- What the bench's calls leave of the turns that are out.
-use Rattle.std.proofs.Common.{◌≡◌, ℕ, ◌<◌, Bool, true, false, cond, eqb, ◌⊎◌, List, [], ◌∷◌, ◌++◌, length, is_ok, Ok, Err, Result, sym, refl, ap, ◌∙◌, subst, inl, inr, arith}
-use mathlib.Core.Option.{Option as Maybe, none, some, Option-elim}
+use Rattle.std.proofs.Common.{◌≡◌, ℕ, ◌<◌, Bool, true, false, cond, eqb, ◌⊎◌, List, [], ◌∷◌, ◌++◌, length, is_ok, Some, None, Option, Ok, Err, Result, sym, refl, ap, ◌∙◌, subst, inl, inr, arith}
 use Rattle.std.proofs.lemmas.Bool.{both_ways, cond-false, eqb-true, ne_eqb, and_parts, and_from, not-true}
 use Rattle.kinds.specs.Kinds.{Kind}
 use Rattle.working.specs.Requests.{leaves, goes, makes, Reply, faulted, stepped}
@@ -35,16 +34,16 @@ use Rattle.bench.specs.Views.{bench_of, turn_of, answer_of}
 
 skipped : (m : ℕ) (w : Member) → (w.number ≡ m → ⊥) → (ss : List Member) → find m (w ∷ ss) ≡ find m ss
 unfolding find
-skipped m w ne ss = cond-false (eqb w.number m) (some w) (find m ss) (ne_eqb w.number m ne)
+skipped m w ne ss = cond-false (eqb w.number m) (Some w) (find m ss) (ne_eqb w.number m ne)
 
 find_other : (n m : ℕ) → (m ≡ n → ⊥) → (new : List Member) → ((ss : List Member) → find m (new ++ ss) ≡ find m ss) → (line : List Member) → find m (replace n new line) ≡ find m line
 unfolding find replace
 find_other n m ne new skips [] = refl
 find_other n m ne new skips (s ∷ ss) = go (eqb s.number n) refl (find_other n m ne new skips ss)
   where
-    go : (x : Bool) → eqb s.number n ≡ x → find m (replace n new ss) ≡ find m ss → find m (cond x (new ++ ss) (s ∷ replace n new ss)) ≡ cond (eqb s.number m) (some s) (find m ss)
-    go true e h = skips ss ∙ sym (cond-false (eqb s.number m) (some s) (find m ss) (ne_eqb s.number m (λ q. ne (sym q ∙ eqb-true s.number n e))))
-    go false e h = ap (cond (eqb s.number m) (some s)) h
+    go : (x : Bool) → eqb s.number n ≡ x → find m (replace n new ss) ≡ find m ss → find m (cond x (new ++ ss) (s ∷ replace n new ss)) ≡ cond (eqb s.number m) (Some s) (find m ss)
+    go true e h = skips ss ∙ sym (cond-false (eqb s.number m) (Some s) (find m ss) (ne_eqb s.number m (λ q. ne (sym q ∙ eqb-true s.number n e))))
+    go false e h = ap (cond (eqb s.number m) (Some s)) h
 
 marked_other : (b : Model.Bench) (s : Member) (u : Status) (m : ℕ) → (m ≡ s.number → ⊥) → find m (marked b s u).line ≡ find m b.line
 unfolding marked bench with_status member
@@ -67,14 +66,14 @@ step_other k b s m ne nc = go (replied k b s)
 
 same_turn : (m : ℕ) (v w : List Member) → find m v ≡ find m w → has_turn m w ≡ true → has_turn m v ≡ true
 unfolding has_turn
-same_turn m v w e h = ap (λ (o : Maybe Member). Option-elim o false (λ s. is_out s.status)) e ∙ h
+same_turn m v w e h = rw e h
 
-put_keeps : (n : ℕ) (u : Status) (b : Model.Bench) (s : Member) → find n b.line ≡ some s → (m : ℕ) → (m ≡ n → ⊥) → has_turn m b.line ≡ true → has_turn m (put n u b).line ≡ true
+put_keeps : (n : ℕ) (u : Status) (b : Model.Bench) (s : Member) → find n b.line ≡ Some s → (m : ℕ) → (m ≡ n → ⊥) → has_turn m b.line ≡ true → has_turn m (put n u b).line ≡ true
 put_keeps n u b s here m ne h =
     let own : s.number ≡ n = (found n b.line s here).number in
     same_turn m (put n u b).line b.line (ap (λ (v : Model.Bench). find m v.line) (put_found n u b s here) ∙ marked_other b s u m (λ q. ne (q ∙ own))) h
 
-advanced_keeps : (k : Kind) (n : ℕ) (b : Model.Bench) (s : Member) → find n b.line ≡ some s → (m : ℕ) → (m ≡ n → ⊥) → (m ≡ b.made → ⊥) → has_turn m b.line ≡ true → has_turn m (advanced k n b).line ≡ true
+advanced_keeps : (k : Kind) (n : ℕ) (b : Model.Bench) (s : Member) → find n b.line ≡ Some s → (m : ℕ) → (m ≡ n → ⊥) → (m ≡ b.made → ⊥) → has_turn m b.line ≡ true → has_turn m (advanced k n b).line ≡ true
 advanced_keeps k n b s here m ne nc h =
     let own : s.number ≡ n = (found n b.line s here).number in
     same_turn m (advanced k n b).line b.line (ap (λ (v : Model.Bench). find m v.line) (advanced_found k n b s here) ∙ step_other k b s m (λ q. ne (q ∙ own)) nc) h
@@ -88,7 +87,7 @@ offered_in n line e h =
     let same : s.0 ≡ u.0 = some_same s.0 u.0 (sym s.1 ∙ u.1) in
     absurd (both_ways (is_out s.0.status) (not-true _ (and_parts (ready line s.0) _ s.2).1) (ap (λ (v : Member). is_out v.status) same ∙ u.2))
   where
-    some_same : (x y : Member) → some x ≡ some y → x ≡ y
+    some_same : (x y : Member) → Some x ≡ Some y → x ≡ y
     some_same x y q = cc
 
 -- Calls of the bench.
@@ -115,7 +114,7 @@ module _ {K : Type 0} (b : Bench K) (t : Turn) (fit : fits_turn (turn_of t) (ben
   unfolding fits_turn
   same_run = (and_parts (eqb t.run (bench_of b).run) (has_turn t.task (bench_of b).line) fit).0
 
-  here : (s : Member) × (find t.task (bench_of b).line ≡ some s) × (is_out s.status ≡ true)
+  here : (s : Member) × (find t.task (bench_of b).line ≡ Some s) × (is_out s.status ≡ true)
   unfolding has_turn
   here = test_found t.task (bench_of b).line (λ s. is_out s.status) has
 
@@ -173,19 +172,19 @@ record Given (k : Kind) (f : List ℕ → ℕ) (v w : Model.Bench) (n : ℕ) : T
   some_offered : 0 < length (offer v)
   is : w ≡ put n out v
 
-unless_none : (ns : List ℕ) (q : Refusal) → unless (not_empty ns) q ≡ none → 0 < length ns
+unless_none : (ns : List ℕ) (q : Refusal) → unless (not_empty ns) q ≡ None → 0 < length ns
 unfolding unless not_empty
-unless_none [] q e = let z : ◌≡◌ {A = ℕ} 0 1 = cc in absurd (omega arith)
+unless_none [] q e = cc
 unless_none (n ∷ ns) q e = omega arith
 
 given : (k : Kind) (g : Call.Going) (f : List ℕ → ℕ) (v w : Model.Bench) (t : Call.Turn) → answer k (take g f) v ≡ (Answer.turn t, w) → Given k f v w t.task
 unfolding answer answered refusal own_refusal granted effect
 given k g f v w t a = go (fits (take g f) v) (own_refusal k (take g f) v) refl a
   where
-    go : (x : Bool) (o : Maybe Refusal) → own_refusal k (take g f) v ≡ o → answered (cond x o (some Foreign)) v (granted k (take g f) v) ≡ (Answer.turn t, w) → Given k f v w t.task
-    go false o e q = let p : Answer.refused Foreign ≡ Answer.turn t = ap (λ (x : Answer × Model.Bench). x.0) q in let z : ◌≡◌ {A = ℕ} 0 1 = cc in absurd (omega arith)
-    go true (some y) e q = let p : Answer.refused y ≡ Answer.turn t = ap (λ (x : Answer × Model.Bench). x.0) q in let z : ◌≡◌ {A = ℕ} 0 1 = cc in absurd (omega arith)
-    go true none e q =
+    go : (x : Bool) (o : Option Refusal) → own_refusal k (take g f) v ≡ o → answered (cond x o (Some Foreign)) v (granted k (take g f) v) ≡ (Answer.turn t, w) → Given k f v w t.task
+    go false o e q = let p : Answer.refused Foreign ≡ Answer.turn t = ap (λ (x : Answer × Model.Bench). x.0) q in cc
+    go true (Some y) e q = let p : Answer.refused y ≡ Answer.turn t = ap (λ (x : Answer × Model.Bench). x.0) q in cc
+    go true None e q =
         let n = chosen f (offer v) in
         let p : Answer.turn (Call.turn_of v.run n) ≡ Answer.turn t = ap (λ (x : Answer × Model.Bench). x.0) q in
         let same : Call.turn_of v.run n ≡ t = cc in

@@ -48,7 +48,7 @@ fn work<K: ValueKind>(rt: &HostRuntime, kind: &K, card: &Card, seed: u32) -> io:
     let mut desk = Desk::new(
         bench,
         going,
-        CardOrder::new(card.order()),
+        CardOrder::from(card.order()),
         Delays::new(seed),
     );
     desk.run(&mut moments);
