@@ -2,6 +2,7 @@
 ghost use Rattle.std.specs.Prelude.{◌≡◌, ℕ, ◌<◌, None, Some, length, slice_index_or, true};
 ghost use Rattle.bench.specs.Views.{bench_of};
 ghost use Rattle.channels.specs.Outs.{Known, Apart};
+ghost use Rattle.channels.specs.Runs.{Goes};
 
 use crate::delays::Delays;
 use crate::moments::{CHANNELS, Cell, Moment, TaskSet};
@@ -56,7 +57,9 @@ fn put(slot: &mut Option<Out>, out: Out)
 }
 
 impl<'c, K: ValueKind, S: Scheduler + Drop> Desk<'c, K, S> {
-    pub fn new(bench: Bench<'c, K>, going: Going, scheduler: S, delays: Delays) -> Desk<'c, K, S> {
+    pub fn new(bench: Bench<'c, K>, going: Going, scheduler: S, delays: Delays) -> Desk<'c, K, S>
+        ensures { result.bench ≡ bench.entry }
+    {
         Desk {
             bench,
             going,
@@ -79,6 +82,7 @@ impl<'c, K: ValueKind, S: Scheduler + Drop> Desk<'c, K, S> {
     // The channel's turn is performed.
     fn perform(&mut self, channel: usize)
         requires { channel < 8 }
+        ensures { Goes K.kind self.old.bench self.new.bench }
     {
         if let Some(out) = self.outs[channel].take() {
             let Out {
@@ -101,6 +105,7 @@ impl<'c, K: ValueKind, S: Scheduler + Drop> Desk<'c, K, S> {
     fn take(&mut self, channel: usize, tick: u16)
         requires below { channel < 8 }
         requires idle { slice_index_or self.old.outs channel None ≡ None }
+        ensures { Goes K.kind self.old.bench self.new.bench }
     {
         if let Ok(turn) = self.bench.take(&self.going, &mut self.scheduler) {
             let due = u32::from(tick) + self.delays.draw();
@@ -116,6 +121,7 @@ impl<'c, K: ValueKind, S: Scheduler + Drop> Desk<'c, K, S> {
     // The channel's turn is given up.
     fn hand_back(&mut self, channel: usize)
         requires { channel < 8 }
+        ensures goes { Goes K.kind self.old.bench self.new.bench }
         ensures gone { slice_index_or self.new.outs channel None ≡ None }
         ensures others { (i : ℕ) → slice_index_or self.old.outs i None ≡ None → slice_index_or self.new.outs i None ≡ None }
     {
@@ -164,7 +170,10 @@ impl<'c, K: ValueKind, S: Scheduler + Drop> Desk<'c, K, S> {
     }
 
     // At a tick the turns whose answers come are performed, and then the idle channels take turns.
-    fn tick(&mut self, tick: u16) {
+    #[tactic(auto, using(crate::proofs::Runs::goes_nowhere, crate::proofs::Runs::goes_on))]
+    fn tick(&mut self, tick: u16)
+        ensures { Goes K.kind self.old.bench self.new.bench }
+    {
         for channel in 0..CHANNELS {
             if self.is_due(channel, tick) {
                 self.perform(channel);
@@ -178,7 +187,10 @@ impl<'c, K: ValueKind, S: Scheduler + Drop> Desk<'c, K, S> {
     }
 
     // Works until no turn is out and none is offered, and notes every tick.
-    pub fn run(&mut self, moments: &mut Vec<Moment>) {
+    #[tactic(auto, using(crate::proofs::Runs::goes_nowhere, crate::proofs::Runs::goes_on))]
+    pub fn run(&mut self, moments: &mut Vec<Moment>)
+        ensures { Goes K.kind self.old.bench self.new.bench }
+    {
         for tick in 0..LAST_TICK {
             self.tick(tick);
             let moment = Moment::new(self.cells(tick), self.queued());
@@ -189,7 +201,10 @@ impl<'c, K: ValueKind, S: Scheduler + Drop> Desk<'c, K, S> {
     }
 
     // The bench without the channels. A turn that is still out is handed back.
-    pub fn leave(mut self) -> (Bench<'c, K>, Going) {
+    #[tactic(auto, using(crate::proofs::Runs::goes_nowhere, crate::proofs::Runs::goes_on))]
+    pub fn leave(mut self) -> (Bench<'c, K>, Going)
+        ensures { Goes K.kind self.entry.bench result.0 }
+    {
         for channel in 0..CHANNELS {
             self.hand_back(channel);
         }

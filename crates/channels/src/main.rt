@@ -6,16 +6,15 @@ mod delays;
 mod desk;
 mod moments;
 mod timeline;
+mod worked;
 
 use crate::delays::Delays;
-use crate::desk::{Desk, LAST_TICK};
+use crate::desk::LAST_TICK;
 use crate::timeline::Timeline;
-use bench::Bench;
+use crate::worked::{Worked, work};
 use cards::{Card, KindName};
 use kinds::{Flags, Tally, ValueKind};
 use loading::Slot;
-use schedulers::CardOrder;
-use sheets::LONGEST;
 use std::io::Write;
 use std::{env, fs, io};
 use written::load_card;
@@ -24,9 +23,6 @@ const CARD: &str = "workshop.card";
 
 // Of the delays, unless another seed is given.
 const SEED: u32 = 221;
-
-// One bench is open, so one run number will do.
-const RUN: u16 = 0;
 
 // The seed that the program is given.
 fn given_seed(rt: &HostRuntime) -> io::Result<u32> {
@@ -38,28 +34,14 @@ fn given_seed(rt: &HostRuntime) -> io::Result<u32> {
     Ok(SEED)
 }
 
-// Works the card on a bench, and prints the timeline and the sheet. No turn is out where it can stop for want of memory
-// or for a failed write.
-fn work<K: ValueKind>(rt: &HostRuntime, kind: &K, card: &Card, seed: u32) -> io::Result<()> {
-    let heap = rt.alloc();
-    let mut moments = Vec::with_capacity(heap, LAST_TICK as usize)?;
-    let mut sheet = vec![in heap; 0; LONGEST]?;
-    let (bench, going) = Bench::open(heap, kind, card, RUN)?;
-    let mut desk = Desk::new(
-        bench,
-        going,
-        CardOrder::from(card.order()),
-        Delays::new(seed),
-    );
-    desk.run(&mut moments);
-    let (mut bench, going) = desk.leave();
+// Works the card, and prints the timeline and the sheet.
+fn show<K: ValueKind>(rt: &HostRuntime, kind: &K, card: &Card, seed: u32) -> io::Result<()> {
+    let Worked { moments, sheet } = work(rt.alloc(), kind, card, Delays::new(seed))?;
     println!(rt; "{}", Timeline(&moments))?;
-    let Ok(closed) = bench.close(going) else {
-        return println!(rt; "The run is not settled after {LAST_TICK} ticks.");
-    };
-    let length = bench.sheet(closed, &mut sheet).unwrap();
-    sheet.truncate(length);
-    rt.stdout().write_all(&sheet)
+    match sheet {
+        Some(sheet) => rt.stdout().write_all(&sheet),
+        None => println!(rt; "The run is not settled after {LAST_TICK} ticks."),
+    }
 }
 
 fn main(rt: HostRuntime) -> io::Result<()> {
@@ -72,7 +54,7 @@ fn main(rt: HostRuntime) -> io::Result<()> {
     }
     let card = slot.card();
     match card.kind() {
-        KindName::Tally => work(&rt, &Tally, card, seed),
-        KindName::Flags => work(&rt, &Flags, card, seed),
+        KindName::Tally => show(&rt, &Tally, card, seed),
+        KindName::Flags => show(&rt, &Flags, card, seed),
     }
 }
