@@ -5,7 +5,7 @@ ghost use Rattle.channels.specs.Outs.{Known, Apart};
 ghost use Rattle.channels.specs.Runs.{Goes};
 
 use crate::delays::Delays;
-use crate::moments::{CHANNELS, Cell, Moment, TaskSet};
+use crate::moments::{CHANNELS, Cell, Moment, TASKS, TaskSet};
 use bench::{Bench, Going, Turn};
 use kinds::ValueKind;
 use schedulers::Scheduler;
@@ -13,10 +13,8 @@ use schedulers::Scheduler;
 // No run of a card that is shown takes more ticks.
 pub const LAST_TICK: u16 = 400;
 
-// A card has at most so many objects, and at most so many tasks stand in a queue.
+// A card has at most so many objects.
 const OBJECTS: usize = 16;
-
-const TASKS: usize = 64;
 
 // A turn that is out: when it was taken, and when its answer comes.
 struct Out {
@@ -38,8 +36,8 @@ pub struct Desk<'c, K, S> {
     ghost apart: { Apart outs },
 }
 
-// Lets go of a channel that has no turn.
-fn idle(slot: Option<Out>)
+// Lets go of what a channel holds, which is no turn.
+fn let_go(slot: Option<Out>)
     requires { slot ≡ None }
 {
     match slot {
@@ -53,7 +51,7 @@ fn put(slot: &mut Option<Out>, out: Out)
     requires { slot.old ≡ None }
     ensures { slot.new ≡ Some out }
 {
-    idle(slot.replace(out));
+    let_go(slot.replace(out));
 }
 
 impl<'c, K: ValueKind, S: Scheduler + Drop> Desk<'c, K, S> {
@@ -217,14 +215,14 @@ impl<'c, K: ValueKind, S: Scheduler + Drop> Desk<'c, K, S> {
         } = self;
         // What can't be let go is taken out of an array by name.
         let [a, b, c, d, e, f, g, h] = outs;
-        idle(a);
-        idle(b);
-        idle(c);
-        idle(d);
-        idle(e);
-        idle(f);
-        idle(g);
-        idle(h);
+        let_go(a);
+        let_go(b);
+        let_go(c);
+        let_go(d);
+        let_go(e);
+        let_go(f);
+        let_go(g);
+        let_go(h);
         (bench, going)
     }
 }

@@ -2,7 +2,7 @@
 pub const CHANNELS: usize = 8;
 
 // A bench makes at most so many tasks.
-const TASKS: u8 = 64;
+pub const TASKS: usize = 64;
 
 // A channel at a tick.
 #[derive(Clone, Copy)]
@@ -25,11 +25,13 @@ impl Cell {
 // A set of task numbers.
 #[derive(Clone, Copy)]
 pub struct TaskSet {
-    has: [bool; 64],
+    has: [bool; TASKS],
 }
 
 impl TaskSet {
-    pub const EMPTY: TaskSet = TaskSet { has: [false; 64] };
+    pub const EMPTY: TaskSet = TaskSet {
+        has: [false; TASKS],
+    };
 
     pub fn insert(&mut self, task: u8) {
         if let Some(has) = self.has.get_mut(task as usize) {
@@ -45,7 +47,7 @@ impl TaskSet {
 
     // The member at a place, from the least.
     pub fn nth(&self, place: usize) -> Option<u8> {
-        (0..TASKS)
+        (0..TASKS as u8)
             .filter(|task| self.has[*task as usize])
             .nth(place)
     }

@@ -6,7 +6,7 @@ use std::fmt;
 
 const LEGEND: &str = "\
 A number begins a turn of that task, - goes on with it, and . is a tick at which the channel waits.
-It waits for the tasks that stand below it in its column; those stand in the way of the tasks behind.
+It waits for the tasks below it, whose turns are out. Those \"behind\" can't go on before others do.
 ";
 
 #[derive(Drop)]
