@@ -162,14 +162,18 @@ module _ (k : Kind) (n : ℕ) (t : Task) (s s' : Tasks) (l : Line) (tells : Tell
     follow : Follows n t (tasks_of s) (tasks_of s') a (reply (store_of s) (request k t))
     follow = follows n t (tasks_of s) h.known (tasks_of s') a (reply (store_of s) (request k t)) h.answer h.tasks
 
-    pub still_told : Tells l' (task_at (tasks_of s'))
+    still_told : Tells l' (task_at (tasks_of s'))
     still_told = f.tells (task_at (tasks_of s)) (task_at (tasks_of s')) follow.differs (declares n t (tasks_of s) h.known (tasks_of s') a h.kept) tells
 
-    pub still_numbered : l'.made ≡ length (tasks_of s')
+    still_numbered : l'.made ≡ length (tasks_of s')
     still_numbered = f.made ∙ ap (λ (c : ℕ). c + added a) numbered ∙ sym follow.longer
 
-    pub still_sized : object_count l' ≡ length (store_of s')
+    still_sized : object_count l' ≡ length (store_of s')
     still_sized = f.objects ∙ objects ∙ sym (store_length h.words)
+
+    -- tasks and line still tell of the same
+    pub still : Tells l' (task_at (tasks_of s')) × (l'.made ≡ length (tasks_of s')) × (object_count l' ≡ length (store_of s'))
+    still = (still_told, still_numbered, still_sized)
 
     line_is : line_of l' (task_at (tasks_of s')) ≡ replace n (in_place n (length (tasks_of s)) t (reply (store_of s) (request k t))) (line_of l (task_at (tasks_of s)))
     line_is =

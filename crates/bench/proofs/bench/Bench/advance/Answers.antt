@@ -11,7 +11,7 @@ use Rattle.lines.specs.Lines.{state_of, line_of}
 use Rattle.lines.proofs.Offered.{turn_live, turn_made, turn_found}
 use Rattle.bench.specs.Tasks.{task_at}
 use Rattle.bench.specs.Views.{performed}
-use Rattle.bench.proofs.Steps.{mapped, some_step, step_of, one_step, within_after, fits_line, still_told, still_numbered, still_sized, out_steps, out_answers, out_falls}
+use Rattle.bench.proofs.Steps.{mapped, some_step, step_of, one_step, within_after, fits_line, still, out_steps, out_answers, out_falls}
 use Rattle.bench.proofs.bench.Bench.advance.Given as given
 use Rattle.bench.proofs.bench.Bench.advance.Goals.{After-unwrap-progress, After-from}
 use Rattle.bench.proofs.bench.Bench.advance.Goals as goal
@@ -54,10 +54,11 @@ invariant_of-self g c =
     let a = c.unwrap-progress.result in
     let here = turn_found b.line (task_at (tasks_of b.tasks)) c.args.n (out g f) in
     let falls = out_falls _ c.args.n h.0 b.tasks s' b.line b.told b.numbered b.objects (live g f) a h.1 l' c.follow.ensures b.run b.steps b.closed Model.out here refl in
+    let still = still _ c.args.n h.0 b.tasks s' b.line b.told b.numbered b.objects (live g f) a h.1 l' c.follow.ensures in
     record {
-      told = still_told _ c.args.n h.0 b.tasks s' b.line b.told b.numbered b.objects (live g f) a h.1 l' c.follow.ensures;
-      numbered = still_numbered _ c.args.n h.0 b.tasks s' b.line b.told b.numbered b.objects (live g f) a h.1 l' c.follow.ensures;
-      objects = still_sized _ c.args.n h.0 b.tasks s' b.line b.told b.numbered b.objects (live g f) a h.1 l' c.follow.ensures;
+      told = still.0;
+      numbered = still.1;
+      objects = still.2;
       within = within_after b.steps c.from.result _ _ (omega (arith, counts g (goal.at.invariant_of-self g c).After-from, one_step a)) b.within falls;
       room = b.room;
     }

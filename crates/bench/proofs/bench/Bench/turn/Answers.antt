@@ -16,7 +16,7 @@ use Rattle.lines.proofs.Quiet.{take_waits, take_live, take_made, take_found}
 use Rattle.bench.specs.Tasks.{task_at}
 use Rattle.bench.specs.Views.{bench_of}
 use Rattle.bench.proofs.Picks.{unsettled_offers, chosen_below}
-use Rattle.bench.proofs.Steps.{some_step, step_of, one_step, within_after, fits_line, still_told, still_numbered, still_sized, turn_steps}
+use Rattle.bench.proofs.Steps.{some_step, step_of, one_step, within_after, fits_line, still, turn_steps}
 use Rattle.bench.proofs.Worked.{turned_is, turned_on, turned_run, turned_falls}
 use Rattle.bench.proofs.bench.Bench.turn.Given as given
 use Rattle.bench.proofs.bench.Bench.turn.Goals.{After-choose-n, After-unwrap-progress, After-from}
@@ -110,10 +110,11 @@ invariant_of-self g c =
     let a = c.unwrap-progress.result in
     let live = take_live b.line (at g p) c.choose-n.result b.told (can g p) in
     let f = c.follow_waiting-stays.ensures.followed in
+    let still = still _ c.choose-n.result (h g c).0 b.tasks s' b.line b.told b.numbered b.objects live a (h g c).1 l' f in
     record {
-      told = still_told _ c.choose-n.result (h g c).0 b.tasks s' b.line b.told b.numbered b.objects live a (h g c).1 l' f;
-      numbered = still_numbered _ c.choose-n.result (h g c).0 b.tasks s' b.line b.told b.numbered b.objects live a (h g c).1 l' f;
-      objects = still_sized _ c.choose-n.result (h g c).0 b.tasks s' b.line b.told b.numbered b.objects live a (h g c).1 l' f;
+      told = still.0;
+      numbered = still.1;
+      objects = still.2;
       within = within_after b.steps c.from.result _ _ (omega (arith, counts g c, one_step a)) b.within (falls g c);
       room = b.room;
     }
