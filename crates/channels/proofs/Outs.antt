@@ -11,7 +11,7 @@ use Rattle.channels.specs.Outs.{OutAt, Known, Apart}
 none_some : {X T : Type 0} (x : T) → None ≡ Some x → X
 none_some x e = cc
 
-some_same : {T : Type 0} (x y : T) → Some x ≡ Some y → x ≡ y
+pub some_same : {T : Type 0} (x y : T) → Some x ≡ Some y → x ≡ y
 some_same x y e = cc
 
 -- the turn on a channel is one that bench b knows

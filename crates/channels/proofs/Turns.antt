@@ -134,7 +134,7 @@ module _ {K : Type 0} (k : Kind) (b b' : Bench K) (t : Turn) (fit : fits_turn (t
     unfolding fits
     performed_ok = not_refused f r k (perform (turn_of t)) (bench_of b) (ap (λ (x : Answer × Model.Bench). x.0) a) fit (λ n h. h)
 
-    performed_is : bench_of b' ≡ advanced k t.task (bench_of b)
+    pub performed_is : bench_of b' ≡ advanced k t.task (bench_of b)
     unfolding fits own_refusal granted effect
     performed_is = ap (λ (x : Answer × Model.Bench). x.1) (sym a ∙ answer_granted k (bench_of b) (perform (turn_of t)) fit refl)
 

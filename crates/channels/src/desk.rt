@@ -1,7 +1,7 @@
 // A bench, and the turns that are out on the channels.
 ghost use Rattle.std.specs.Prelude.{◌≡◌, ℕ, ◌<◌, None, Some, length, slice_index_or, true};
 ghost use Rattle.bench.specs.Views.{bench_of};
-ghost use Rattle.channels.specs.Outs.{Known, Apart};
+ghost use Rattle.channels.specs.Outs.{Known, Apart, Stepped};
 ghost use Rattle.channels.specs.Runs.{Goes};
 
 use crate::delays::Delays;
@@ -80,7 +80,8 @@ impl<'c, K: ValueKind, S: Scheduler + Drop> Desk<'c, K, S> {
     // The channel's turn is performed.
     fn perform(&mut self, channel: usize)
         requires { channel < 8 }
-        ensures { Goes K.kind self.old.bench self.new.bench }
+        ensures goes { Goes K.kind self.old.bench self.new.bench }
+        ensures steps { Stepped (K.kind self.old.bench.kind.now) self.old.outs channel (bench_of self.old.bench) (bench_of self.new.bench) }
     {
         if let Some(out) = self.outs[channel].take() {
             let Out {

@@ -14,10 +14,7 @@ pub struct Timeline<'a>(pub &'a [Moment]);
 
 // A task's number in one letter.
 fn mark(task: u8) -> char {
-    match char::from_digit(task.into(), 36) {
-        Some(digit) => digit,
-        None => '+',
-    }
+    char::from_digit(task.into(), 36).unwrap_or('+')
 }
 
 impl fmt::Display for Cell {

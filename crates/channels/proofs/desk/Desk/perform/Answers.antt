@@ -1,7 +1,9 @@
-use Rattle.std.proofs.Common.{◌<◌, length, sym, ◌∙◌, arith}
+use Rattle.std.proofs.Common.{◌<◌, length, sym, ap, ◌∙◌, arith}
+use Rattle.runs.specs.Steps.{advanced}
 use Rattle.bench.specs.Views.{bench_of, performed}
-use Rattle.channels.proofs.Turns.{performed_ok, performed_keeps}
-use Rattle.channels.proofs.Outs.{freed_known, freed_apart}
+use Rattle.channels.specs.declared.desk.Out.{Out}
+use Rattle.channels.proofs.Turns.{performed_ok, performed_is, performed_keeps}
+use Rattle.channels.proofs.Outs.{some_same, freed_known, freed_apart}
 use Rattle.channels.proofs.desk.Desk.perform.Goals as goal
 
 pub unwrap-requires : goal.unwrap-requires
@@ -25,3 +27,12 @@ invariant_of-self-clause-apart g c =
     let d = c.args.self.now in
     let lt : c.args.channel < length d.outs = omega (arith, d.eight, c.requires) in
     freed_apart d.outs c.args.channel lt _ c.take.ensures.after d.apart
+
+pub returns-in-Some-clause-steps : goal.returns-in-Some-clause-steps
+returns-in-Some-clause-steps g c x h =
+    let d = c.args.self.now in
+    let y = c.in-Some.out in
+    let k = g.K.ValueKind.kind d.bench.kind.now in
+    let at = sym c.take.ensures.value ∙ c.in-Some.is in
+    performed_is k d.bench c.perform.new.self y.turn (d.known c.args.channel y at) performed c.perform.result c.perform.ensures.answers
+    ∙ ap (λ (o : Out). advanced k o.turn.task (bench_of d.bench)) (some_same y x (sym at ∙ h))
