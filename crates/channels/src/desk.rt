@@ -10,7 +10,7 @@ use bench::{Bench, Going, Turn};
 use kinds::ValueKind;
 use schedulers::Scheduler;
 
-// No run of a card that is shown takes more ticks.
+// A run is worked through so many ticks at most.
 pub const LAST_TICK: u16 = 400;
 
 // A card has at most so many objects.
