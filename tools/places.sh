@@ -28,7 +28,7 @@ clauses() {
 twins() {
     local copy f
     copy=$(mktemp -d)
-    for f in $(find crates -path '*/src/*.rt'); do
+    for f in $(find crates/*/src -name '*.rt'); do
         mkdir -p "$copy/$(dirname "$f")"
         cp "$f" "$copy/${f%.rt}.rs"
     done

@@ -16,8 +16,8 @@ use kinds::ValueKind;
 use runs::Refusal;
 use schedulers::Scheduler;
 
-// `AtWork` is asked of three calls, and no type has it: each call of a struct that lends the bench would have to say that
-// it lends the same bench still.
+// That the bench is at work, with no turn out, is asked by three calls and in no type: it holds only while a run is
+// worked off.
 impl<'c, K: ValueKind> Bench<'c, K> {
     // Takes and performs the turn that the scheduler chooses from what is offered, and tells whether what is offered
     // stays as it is.

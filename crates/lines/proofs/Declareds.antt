@@ -1,5 +1,5 @@
 -- What a task declares by a queue that was changed.
-use Rattle.std.proofs.Common.{◌≡◌, ℕ, zero, suc, Bool, true, false, cond, ◌||◌, eqb, List, [], ◌∷◌, length, get_or, sym, refl, ap, ◌∙◌, ⊎_elim, arith}
+use Rattle.std.proofs.Common.{◌≡◌, ℕ, zero, suc, Bool, true, false, cond, ◌||◌, eqb, List, [], ◌∷◌, length, get_or, sym, refl, ap, ◌∙◌, ⊎_elim}
 use Rattle.std.proofs.lemmas.List.{length-map, ext_get_or}
 use Rattle.std.proofs.lemmas.Bool.{cond-true, cond-false, eqb-true, eqb-false, eq-eqb, ne_eqb, or_parts, or_from, both_ways, cases_Bool}
 use Rattle.cards.specs.declared.lines.Access.{Access}
@@ -35,8 +35,8 @@ declared_by_same qs qs' n e h = declared_by_is qs' n (declared_by qs n) (length_
 
 pub not_held : (l : Level) → held l ≡ false → l ≡ Absent
 not_held Absent e = refl
-not_held Deferred e = let z : ◌≡◌ {A = ℕ} 0 1 = cc in absurd (omega arith)
-not_held Immediate e = let z : ◌≡◌ {A = ℕ} 0 1 = cc in absurd (omega arith)
+not_held Deferred e = cc
+not_held Immediate e = cc
 
 declares_none : (d : Declared) → declares d ≡ false → d ≡ nothing
 unfolding declares

@@ -61,7 +61,7 @@ three_past c e d x y z =
 not_immediate : (l : Level) → held l ≡ false → is_immediate l ≡ false
 not_immediate Absent e = refl
 not_immediate Deferred e = refl
-not_immediate Immediate e = let z : ◌≡◌ {A = ℕ} 0 1 = cc in absurd (omega arith)
+not_immediate Immediate e = cc
 
 three_none : (c : Clear) (d : Declared) (x y z : Bool) → declares d ≡ false → true ≡ three c d x y z
 unfolding declares

@@ -1,5 +1,5 @@
 -- The tests say that two lists are equal.
-use Rattle.std.proofs.Common.{◌≡◌, ℕ, true, ◌&&◌, eqb, List, [], ◌∷◌, sym, refl, ap, ◌∙◌, ap₂, arith}
+use Rattle.std.proofs.Common.{◌≡◌, true, ◌&&◌, eqb, List, [], ◌∷◌, sym, refl, ap, ◌∙◌, ap₂, arith}
 use Rattle.std.proofs.lemmas.Bool.{and_parts, and_from, eqb-true, eq-eqb}
 use Rattle.cards.specs.declared.lines.Level.{Level}
 use Rattle.cards.specs.declared.lines.Level.TheVariants.{Absent, Deferred, Immediate}
@@ -46,8 +46,8 @@ same_itself d = and_from _ _ (eq-eqb (rank d.reads) (rank d.reads) refl) (and_fr
 pub equal_entries : (es fs : List Entry) → same_entries es fs ≡ true → es ≡ fs
 unfolding same_entries
 equal_entries [] [] h = refl
-equal_entries [] (f ∷ fs) h = let z : ◌≡◌ {A = ℕ} 0 1 = cc in absurd (omega arith)
-equal_entries (e ∷ es) [] h = let z : ◌≡◌ {A = ℕ} 0 1 = cc in absurd (omega arith)
+equal_entries [] (f ∷ fs) h = cc
+equal_entries (e ∷ es) [] h = cc
 equal_entries (e ∷ es) (f ∷ fs) h =
     let a = and_parts (eqb e.number f.number && same_declared e.declared f.declared) (same_entries es fs) h in
     let b = and_parts (eqb e.number f.number) (same_declared e.declared f.declared) a.0 in
@@ -64,8 +64,8 @@ same_entries_from es fs e = ap (λ (l : List Entry). same_entries es l) (sym e) 
 pub equal_declarations : (ds es : List Declared) → same_declarations ds es ≡ true → ds ≡ es
 unfolding same_declarations
 equal_declarations [] [] h = refl
-equal_declarations [] (e ∷ es) h = let z : ◌≡◌ {A = ℕ} 0 1 = cc in absurd (omega arith)
-equal_declarations (d ∷ ds) [] h = let z : ◌≡◌ {A = ℕ} 0 1 = cc in absurd (omega arith)
+equal_declarations [] (e ∷ es) h = cc
+equal_declarations (d ∷ ds) [] h = cc
 equal_declarations (d ∷ ds) (e ∷ es) h =
     let a = and_parts (same_declared d e) (same_declarations ds es) h in
     ap₂ (λ (x : Declared) (l : List Declared). x ∷ l) (equal_declared d e a.0) (equal_declarations ds es a.1)

@@ -13,7 +13,8 @@ use crate::state::State;
 // The numbers of the unfinished tasks in line order, a queue for each object, each number's state, whether its
 // immediate declarations are clear, and how many tasks were made. There is room for 64 tasks.
 //
-// States and flags are two arrays: a change of one state leaves the flags, and `refresh` writes flags alone.
+// States and flags are two arrays: a change of one state leaves the flags, and `refresh` writes flags alone. Each has
+// fixed memory for all numbers of a byte, so that no index has to be tested.
 //
 // A task stands once in the line while it is not finished, the stored queues are those read off the line, the flags
 // are those of the queues, and a turn that is out is of a task that is clear.

@@ -31,7 +31,8 @@ fn fill<'a>(
 }
 
 impl Line {
-    // The numbers of the ready tasks that have no turn out, in line order, written into the row.
+    // The numbers of the ready tasks that have no turn out, in line order, written into the row: fixed memory of the
+    // caller's, since no call of an open bench asks for any.
     pub fn offer<'a>(&self, row: &'a mut [u8; 64]) -> &'a [u8]
         ensures items { (t : ℕ → Task) → Tells self.now t → result.now ≡ offered (line_of self.now t) (line_of self.now t) }
         ensures few { length result.now ≤ 64 }

@@ -69,7 +69,8 @@ pub(crate) fn refresh(queues: &Vec<Queue>, clear: &mut [bool; 256])
 }
 
 // A loop for each change: one over a closure would say which references the closure was called with, and each caller
-// would have to show what that makes of the queues.
+// would have to show what that makes of the queues. By `enumerate`: behind a `zip`, a proof doesn't know what is written.
+// That as many queues are left ties the queues before to those after, so it is a clause and in no type.
 
 #[tactic(auto, using(crate::proofs::Rounds::changed_none))]
 pub(crate) fn enter_all(queues: &mut Vec<Queue>, maker: u8, child: u8, ds: &[Declared])

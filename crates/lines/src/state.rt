@@ -28,6 +28,7 @@ pub enum Deed {
     Return,
 }
 
+// One match for all that can happen, with a word for each outcome, so that states and events can be read as one table.
 pub fn decide(state: State, event: Event) -> Deed
     ensures { result ≡ States.deed state event }
 {

@@ -27,7 +27,7 @@ impl<'a> Declares for &'a Record {
     ghost each_object = { λ r. length-take-le r.now.objects r.now.declared (subst (λ (n : ℕ). r.now.objects ≤ n) (sym r.now.wide) r.now.few) };
 
     fn declarations(&self) -> &[Declared] {
-        &self.declared[..self.objects as usize]
+        self.declared()
     }
 }
 

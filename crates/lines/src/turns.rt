@@ -23,6 +23,7 @@ fn put_state(states: &mut [State; 256], n: u8, state: State)
     }
 }
 
+// What a call leaves as it was ties the line before to the line after, so it is a clause and in no type.
 impl Line {
     // Another state for a task that is not finished, and nothing else.
     pub(crate) fn mark(&mut self, n: u8, state: State)

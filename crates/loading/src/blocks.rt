@@ -21,7 +21,7 @@ pub enum SectionKind {
     With,
 }
 
-// What ended a block, with the line of the text.
+// What ended a block, with the line of the text. Three cases, each met otherwise: no Option says as much.
 #[derive(Clone, Copy)]
 pub enum Closer {
     End { line: u32 },

@@ -28,6 +28,7 @@ pub enum Verb {
     Bare(Keyword),
 }
 
+// Not the tree's `Statement`, whose words it shares: a line is copied, and holds no block.
 #[derive(Clone, Copy)]
 pub enum Line {
     Set {

@@ -29,7 +29,7 @@ pub enum LoadRefusal {
     Memory,
 }
 
-// A refusal's number, line and word.
+// A refusal's number, line and word: numbers, since a sheet prints them, as it prints 0 where there is no line or word.
 #[derive(Clone, Copy, Debug, PartialEq, Eq)]
 pub struct Told {
     pub number: u32,

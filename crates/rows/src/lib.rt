@@ -25,6 +25,8 @@ pub fn remove_at<T: Copy>(row: &mut [T], at: usize)
     row.copy_within(at + 1.., at);
 }
 
+// Both keep the capacity: that ties the row before to the row after, so it is a clause and in no type.
+
 pub fn insert<T: Copy>(row: &mut Vec<T>, at: usize, x: T)
     requires at { at ≤ vec_len row.old }
     requires room { vec_len row.old < vec_capacity row.old }

@@ -11,6 +11,7 @@ use cards::OrderName;
 // The width of the order that a card names `narrow`.
 const WIDTH: usize = 4;
 
+// An enum and no `dyn`: the orders that a card can name are four, and each is held by value.
 #[derive(Debug, Drop)]
 pub enum CardOrder {
     First(First),

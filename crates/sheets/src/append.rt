@@ -39,7 +39,8 @@ pub(crate) fn ranks(out: &mut Vec<u8>, place: &[u8]) -> Result<(), AllocError>
     Ok(())
 }
 
-// The number of each word, one a line.
+// The number of each word, one a line. A loop of its own beside `ranks`: the end of a line stands behind a word, and the
+// point before a rank.
 pub(crate) fn numbers<K: ValueKind>(
     out: &mut Vec<u8>,
     kind: &K,

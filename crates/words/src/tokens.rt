@@ -25,7 +25,8 @@ pub struct Place {
     pub word: u32,
 }
 
-// A word of a line with its place, or a place at which the line has no word.
+// A word of a line with its place, or a place at which the line has no word. An enum of its own, since each case has
+// its place: a word's bytes are a part of the card's text.
 #[derive(Clone, Copy)]
 pub enum Token<'a> {
     Word { bytes: &'a [u8], place: Place },

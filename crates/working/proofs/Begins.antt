@@ -5,18 +5,10 @@ use Rattle.cards.specs.Trees.{block_of}
 use Rattle.cards.specs.Code.{Block, Card}
 use Rattle.working.specs.Tasks.{main}
 use Rattle.working.specs.declared.record.Record.{Record}
-use Rattle.working.specs.declared.work.Work.{Work}
 use Rattle.working.specs.declared.work.Fresh.{Fresh}
-use Rattle.working.specs.declared.place.Place.{Place}
-use Rattle.working.specs.Works.{ranks_of, work_of}
+use Rattle.working.specs.Works.{ranks_of}
 use Rattle.working.specs.Records.{task_with, MainRecord}
-use Rattle.working.specs.Steps.{task_of, fresh_task}
-
-pub task_of_begun : (u : Record) (f : Fresh) (v : Work) → work_of v ≡ block_of f.body.now → v.place ≡ f.place → v.children ≡ 0 → task_of u v ≡ fresh_task u f
-task_of_begun u f v e p c =
-    ap (λ (x : Block). task_with u (ranks_of v.place) v.children x) e
-    ∙ ap (λ (n : ℕ). task_with u (ranks_of v.place) n (block_of f.body.now)) c
-    ∙ ap (λ (x : Place). task_with u (ranks_of x) 0 (block_of f.body.now)) p
+use Rattle.working.specs.Steps.{fresh_task}
 
 pub fresh_main : (k : Kind) (c : Card) (r : Record) (f : Fresh) → MainRecord k c r → block_of f.body.now ≡ c.body → ranks_of f.place ≡ [] → fresh_task r f ≡ main k c
 fresh_main k c r f h b p = ap (λ (x : List ℕ). task_with r x 0 (block_of f.body.now)) p ∙ ap (λ (x : Block). task_with r [] 0 x) b ∙ h.task

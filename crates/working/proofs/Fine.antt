@@ -188,7 +188,7 @@ fine k t = fine_block k t t.work
 -- whatever the words
 pub leaves_reply : (P : Next → Type 0) (r : Request) (m : List ℕ) (n : Next) → Leaves P r → reply m r ≡ stepped n → P n
 unfolding reply
-leaves_reply P (fault f l) m n h e = let z : ◌≡◌ {A = ℕ} 0 1 = cc in absurd (omega arith)
+leaves_reply P (fault f l) m n h e = cc
 leaves_reply P (quiet x) m n h e = let q : x ≡ n = cc in rw (← q) h
 leaves_reply P (read o x) m n h e = let q : x (get_or m o 0) ≡ n = cc in rw (← q) (h (get_or m o 0))
 leaves_reply P (write o w x) m n h e = let q : x ≡ n = cc in rw (← q) h

@@ -36,7 +36,7 @@ by_step p a b x e = rw e
 pub serial_related : (k : Kind) (fuel : ℕ) (m : List ℕ) (line : List Task) (n c : ℕ) (r : Result) → serial k fuel m line n c ≡ Some r → Serial k m line n c r
 unfolding serial
 serial_related k zero m [] n c r e = let p : result (words m) n c ≡ r = cc in rw (← p) done
-serial_related k zero m (t ∷ ts) n c r e = let z : ◌≡◌ {A = ℕ} 0 1 = cc in absurd (omega arith)
+serial_related k zero m (t ∷ ts) n c r e = cc
 serial_related k (suc fuel) m [] n c r e = let p : result (words m) n c ≡ r = cc in rw (← p) done
 serial_related k (suc fuel) m (t ∷ ts) n c r e = go (reply m (request k t)) refl (λ x. serial_related k fuel (stored k m (request k t)) (segment x ++ ts) (suc n) (c + made_by x) r)
   where

@@ -13,7 +13,7 @@ use crate::work::{Frames, Fresh, Work};
 use cards::{Block, Card, Step};
 use std::alloc::{AllocError, Global};
 
-// What work comes to next: nothing, a statement, or one of the rounds left.
+// What work comes to next: nothing, a statement, or one of the rounds left. Three cases that one `match` tells apart.
 #[derive(Clone, Copy)]
 pub(crate) enum Head<'c> {
     Nothing,
@@ -111,7 +111,8 @@ impl<'c> Work<'c> {
         }
     }
 
-    // Goes on with the rest of the block. What fits depends on the frames that are there, so no block's type can tell it.
+    // Goes on with the rest of the block. What fits depends on the frames that are there, so no block's type can tell it;
+    // and what stays ties the work before to the work after.
     pub(crate) fn pass(&mut self, rest: &'c Block)
         requires fits { Fits self.old (depth (block_of rest.now)) }
         requires few { Few self.old (over (block_of rest.now) self.old) }

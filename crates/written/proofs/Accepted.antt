@@ -271,7 +271,7 @@ module _ (h n : ℕ) (k : Reader) (honest : (s : List Said) (l d : ℕ) → Bloc
   unfolding block_lines Numbered line_count
   ends_back x s l (C.End e) is = let same : x ≡ Lines.keyword K.End = cc in record { lines = λ r z. ap (λ a. Ok a ∷ s) same ∙ ap (λ a. Ok (Lines.keyword K.End) ∷ a) z; numbers = tt; number = omega arith; left = tt }
   ends_back x s l (C.Else e) is = let same : x ≡ Lines.keyword K.Else = cc in record { lines = λ r z. ap (λ a. Ok a ∷ s) same ∙ ap (λ a. Ok (Lines.keyword K.Else) ∷ a) z; numbers = tt; number = omega arith; left = tt }
-  ends_back x s l C.Out is = let z : ◌≡◌ {A = ℕ} 0 1 = cc in absurd (omega arith)
+  ends_back x s l C.Out is = cc
 
   closer_back : (o : Option Closer) (x : Lines.Line) (s : List Said) (l d : ℕ) → Closes x o → BlockBack (Ok x ∷ s) l (by_closer h n k o x s l d)
   closer_back (Some q) x s l d is = ends_back x s l q is

@@ -118,10 +118,10 @@ same_empty s t h = go (eqb (length s) 0) (has 10 s) (eqb (length t) 0) (has 10 t
     go : (a b c d : Bool) → cond a (Err (F.Missing 0)) (cond b (Ok (before 10 s)) (Err (F.Unended 0))) ≡ cond c (Err (F.Missing 0)) (cond d (Ok (before 10 t)) (Err (F.Unended 0))) → a ≡ c
     go true b true d e = refl
     go false b false d e = refl
-    go true b false true e = let z : ◌≡◌ {A = ℕ} 0 1 = cc in absurd (omega arith)
-    go true b false false e = let z : ◌≡◌ {A = ℕ} 0 1 = cc in absurd (omega arith)
-    go false true true d e = let z : ◌≡◌ {A = ℕ} 0 1 = cc in absurd (omega arith)
-    go false false true d e = let z : ◌≡◌ {A = ℕ} 0 1 = cc in absurd (omega arith)
+    go true b false true e = cc
+    go true b false false e = cc
+    go false true true d e = cc
+    go false false true d e = cc
 
 module _ (n : ℕ) where
   abbrev section_read : ℕ → List Open → ℕ → List ℕ → Result (Unit {0}) LineFault

@@ -22,9 +22,9 @@ unfolding text_line
 numbered s b n e m = go (eqb (length s) 0) (has 10 s) e
   where
     go : (t u : Bool) → cond t (Err (F.Missing n)) (cond u (Ok (before 10 s)) (Err (F.Unended n))) ≡ Ok b → cond t (Err (F.Missing m)) (cond u (Ok (before 10 s)) (Err (F.Unended m))) ≡ Ok b
-    go true u h = let z : ◌≡◌ {A = ℕ} 0 1 = cc in absurd (omega arith)
+    go true u h = cc
     go false true h = cc
-    go false false h = let z : ◌≡◌ {A = ℕ} 0 1 = cc in absurd (omega arith)
+    go false false h = cc
 
 -- the fault of a line that there is not
 record NoLine (n : ℕ) (y : LineFault) : Type 0 where
@@ -37,7 +37,7 @@ no_line s n y e = go (eqb (length s) 0) (has 10 s) e
   where
     go : (t u : Bool) → cond t (Err (F.Missing n)) (cond u (Ok (before 10 s)) (Err (F.Unended n))) ≡ Err y → NoLine n y
     go true u h = let is : y ≡ F.Missing n = cc in rw is (record { line = refl; word = refl })
-    go false true h = let z : ◌≡◌ {A = ℕ} 0 1 = cc in absurd (omega arith)
+    go false true h = cc
     go false false h = let is : y ≡ F.Unended n = cc in rw is (record { line = refl; word = refl })
 
 -- Readers from line n on.

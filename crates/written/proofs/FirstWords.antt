@@ -47,13 +47,13 @@ module _ {A : Type 0} (n j : ℕ) (x : A) where
   last_fine = record { words = []; value = x; fine = refl }
 
   last_first : Firsts n j last
-  last_first [] y e = let z : ◌≡◌ {A = ℕ} 0 1 = cc in absurd (omega arith)
+  last_first [] y e = cc
   last_first (w ∷ ws) y e =
       let is : y ≡ Surplus (place n (suc j)) = cc in
       record { before = 0; line = ap (λ z. (place_of z).line) is; word = ap (λ z. (place_of z).word) is ∙ omega arith; later = go is; words = []; value = x; fine = refl; same = refl }
     where
       go : y ≡ Surplus (place n (suc j)) → (vs : List (List ℕ)) → take 1 (w ∷ ws) ≡ take 1 vs → last vs ≡ Err y
-      go is [] h = let z : ◌≡◌ {A = ℕ} 0 1 = cc in absurd (omega arith)
+      go is [] h = cc
       go is (v ∷ vs) h = ap Err (sym is)
 
 -- a word that g reads, and the words after it
@@ -69,15 +69,15 @@ module _ {A B : Type 0} (n j : ℕ) (g : List ℕ → Option A) (d : List ℕ) (
     where
       go : y ≡ Missing (place n (suc j)) → (vs : List (List ℕ)) → [] ≡ take 1 vs → step vs ≡ Err y
       go is [] h = ap Err (sym is)
-      go is (v ∷ vs) h = let z : ◌≡◌ {A = ℕ} 0 1 = cc in absurd (omega arith)
+      go is (v ∷ vs) h = cc
   step_first (w ∷ ws) y e = by (g w) refl e
     where
       unfit : g w ≡ None → y ≡ Unfit (place n (suc j)) → (vs : List (List ℕ)) → take 1 (w ∷ ws) ≡ take 1 vs → step vs ≡ Err y
-      unfit o is [] h = let z : ◌≡◌ {A = ℕ} 0 1 = cc in absurd (omega arith)
+      unfit o is [] h = cc
       unfit o is (v ∷ vs) h = let same : v ≡ w = cc in rw (same, o) (ap Err (sym is))
 
       on : (x : A) → g w ≡ Some x → (k : ℕ) → ((vs : List (List ℕ)) → take (suc k) ws ≡ take (suc k) vs → f x vs ≡ Err y) → (vs : List (List ℕ)) → take (suc (suc k)) (w ∷ ws) ≡ take (suc (suc k)) vs → step vs ≡ Err y
-      on x o k later [] h = let z : ◌≡◌ {A = ℕ} 0 1 = cc in absurd (omega arith)
+      on x o k later [] h = cc
       on x o k later (v ∷ vs) h = let same : v ≡ w = cc in let rest : take (suc k) ws ≡ take (suc k) vs = cc in rw (same, o) (later vs rest)
 
       by : (o : Option A) → g w ≡ o → then (or_unfit o (place n (suc j))) (λ x. f x ws) ≡ Err y → FirstWord n j step (w ∷ ws) y

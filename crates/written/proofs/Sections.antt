@@ -40,8 +40,8 @@ Allowed S.With d = Unit {0}
 -- Back.
 
 never_oks : {A : Type 0} (e : LineFault) (s : List Said) (xs : List Line) → Err e ∷ s ≡ oks xs → A
-never_oks e s [] h = let z : ◌≡◌ {A = ℕ} 0 1 = cc in absurd (omega arith)
-never_oks e s (x ∷ xs) h = let z : ◌≡◌ {A = ℕ} 0 1 = cc in absurd (omega arith)
+never_oks e s [] h = cc
+never_oks e s (x ∷ xs) h = cc
 
 pub record Back (m : ℕ) (s : List ℕ) (xs : List Line) : Type 0 where
   pub text : s ≡ lines_text xs
@@ -58,13 +58,13 @@ section_back zero s n xs h = go (eqb (length s) 0) refl xs h
   where
     go : (t : Bool) → eqb (length s) 0 ≡ t → (ys : List Line) → cond t [] (Err (Surplus n) ∷ []) ≡ oks ys → Back 0 s ys
     go true e [] k = record { text = nil_from_length s (eqb-true _ _ e); count = refl; fits = tt }
-    go true e (y ∷ ys) k = let z : ◌≡◌ {A = ℕ} 0 1 = cc in absurd (omega arith)
+    go true e (y ∷ ys) k = cc
     go false e ys k = never_oks (Surplus n) [] ys k
 section_back (suc m) s n xs h = by (text_line s n) (line_back s n) xs h (section_back m (after 10 s) (suc n))
   where
     said : (b : List ℕ) (r : Result Line WordFault) → IfOk r (λ x. (words b ≡ line_words x) × FitsLine x) → s ≡ line (words b) (after 10 s) → (ys : List Line) → onto r (section m (after 10 s) (suc n)) ≡ oks ys → ((zs : List Line) → section m (after 10 s) (suc n) ≡ oks zs → Back m (after 10 s) zs) → Back (suc m) s ys
     said b (Err f) r e ys k ih = never_oks _ [] ys k
-    said b (Ok x) r e [] k ih = let z : ◌≡◌ {A = ℕ} 0 1 = cc in absurd (omega arith)
+    said b (Ok x) r e [] k ih = cc
     said b (Ok x) r e (y ∷ ys) k ih =
         let same : x ≡ y = cc in
         let later : section m (after 10 s) (suc n) ≡ oks ys = cc in

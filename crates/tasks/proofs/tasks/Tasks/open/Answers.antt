@@ -2,16 +2,16 @@ use Rattle.std.proofs.Common.{◌≡◌, ℕ, List, [], ◌∷◌, ◌++◌, len
 use Rattle.std.proofs.lemmas.List.{length-map}
 use Rattle.kinds.specs.Kinds.{Kind}
 use Rattle.cards.specs.Bounds.{task_bound}
-use Rattle.cards.specs.Code.{Block, Card}
+use Rattle.cards.specs.Code.{Card}
 use Rattle.cards.specs.Trees.{block_of}
 use Rattle.working.specs.declared.record.Record.{Record}
 use Rattle.working.specs.declared.task.Task.{Task}
 use Rattle.working.specs.declared.work.Fresh.{Fresh}
-use Rattle.working.specs.Tasks as Tasks
 use Rattle.working.specs.Tasks.{main, starting_words}
+use Rattle.working.proofs.Begins.{fresh_main}
 use Rattle.working.specs.Steps.{model_of}
 use Rattle.working.specs.Works.{ranks_of}
-use Rattle.working.specs.Records.{task_with, MainRecord}
+use Rattle.working.specs.Records.{MainRecord}
 use Rattle.working.specs.Steps.{fresh_task}
 use Rattle.tasks.specs.Rooms.{to_make, sizes}
 use Rattle.tasks.proofs.tasks.Tasks.open.Given as given
@@ -50,11 +50,7 @@ add-requires g c =
     }
 
 alone : (k : Kind) (d : Card) (ts : List Task) (own : Record) (f : Fresh) → ts ≡ [] → MainRecord k d own → block_of f.body.now ≡ d.body → ranks_of f.place ≡ [] → map model_of ts ++ fresh_task own f ∷ [] ≡ main k d ∷ []
-alone k d ts own f e h b p =
-    ap (λ (l : List Task). map model_of l ++ fresh_task own f ∷ []) e
-    ∙ ap (λ (x : List ℕ). task_with own x 0 (block_of f.body.now) ∷ []) p
-    ∙ ap (λ (x : Block). task_with own [] 0 x ∷ []) b
-    ∙ ap (λ (t : Tasks.Task). t ∷ []) h.task
+alone k d ts own f e h b p = ap (λ (l : List Task). map model_of l ++ fresh_task own f ∷ []) e ∙ ap (λ t. t ∷ []) (fresh_main k d own f h b p)
 
 pub returns : goal.returns
 returns g c =
