@@ -250,37 +250,30 @@ fn another_run(rt: HostRuntime) -> Result<(), Fail> {
     Ok(())
 }
 
+// While main waits, the run can't be closed. While its turn is out, nothing is offered and the run can't be worked off.
 #[test]
-fn nothing_to_offer(rt: HostRuntime) -> Result<(), Fail> {
+fn not_yet(rt: HostRuntime) -> Result<(), Fail> {
     let heap = rt.alloc();
     let slot = load(&rt, heap, CHILDREN)?;
     let (mut bench, going) = Bench::open(heap, &Tally, slot.card(), 1)?;
     let mut scheduler = Counting { picks: 0 };
+
+    let going = refused(&rt, bench.close(going), Refusal::Unsettled);
     let own = given(&rt, bench.take(&going, &mut First));
     withheld(
         &rt,
         bench.take(&going, &mut scheduler),
         Refusal::NothingToOffer,
     );
+    let going = refused(
+        &rt,
+        bench.work_off(going, &mut scheduler),
+        Refusal::Unsettled,
+    );
+    let going = refused(&rt, bench.close(going), Refusal::Unsettled);
     assert_eq!(rt; scheduler.picks, 0);
-    assert_eq!(rt; granted(&rt, bench.perform(own)), Ok(()));
-    let closed = ended(&rt, &mut bench, going);
-    gives(&rt, &mut bench, closed, CHILDREN_SHEET);
-    Ok(())
-}
 
-#[test]
-fn unsettled(rt: HostRuntime) -> Result<(), Fail> {
-    let heap = rt.alloc();
-    let slot = load(&rt, heap, CHILDREN)?;
-    let (mut bench, going) = Bench::open(heap, &Tally, slot.card(), 1)?;
-    // Main waits.
-    let going = refused(&rt, bench.close(going), Refusal::Unsettled);
-    // Its turn is out.
-    let own = given(&rt, bench.take(&going, &mut First));
-    let going = refused(&rt, bench.close(going), Refusal::Unsettled);
-    let going = refused(&rt, bench.work_off(going, &mut First), Refusal::Unsettled);
-    granted(&rt, bench.hand_back(own));
+    assert_eq!(rt; granted(&rt, bench.perform(own)), Ok(()));
     let closed = ended(&rt, &mut bench, going);
     gives(&rt, &mut bench, closed, CHILDREN_SHEET);
     Ok(())
@@ -337,15 +330,39 @@ fn buffers(rt: HostRuntime) -> Result<(), Fail> {
     Ok(())
 }
 
+// Performs main's four steps. It stands behind its children, so it is the last on offer.
+fn make_children(rt: &impl Abort, bench: &mut Bench<'_, Tally>, going: &Going) {
+    for statement in ["point", "point", "task", "task"] {
+        let done = step(rt, bench, going, &mut Last);
+        assert_eq!(rt; done, Ok(()), "{statement}");
+    }
+}
+
+#[test]
+fn turns_at_once(rt: HostRuntime) -> Result<(), Fail> {
+    let heap = rt.alloc();
+    let slot = load(&rt, heap, CHILDREN)?;
+    let (mut bench, going) = Bench::open(heap, &Tally, slot.card(), 1)?;
+    make_children(&rt, &mut bench, &going);
+    let one = given(&rt, bench.take(&going, &mut First));
+    let two = given(&rt, bench.take(&going, &mut First));
+    let main = given(&rt, bench.take(&going, &mut First));
+    assert_eq!(rt; [one.task(), two.task(), main.task()], [1, 2, 0]);
+    let did = granted(&rt, bench.perform(main));
+    granted(&rt, bench.hand_back(two));
+    let done = granted(&rt, bench.perform(one));
+    assert_eq!(rt; [did, done], [Ok(()), Ok(())]);
+    let closed = ended(&rt, &mut bench, going);
+    gives(&rt, &mut bench, closed, CHILDREN_SHEET);
+    Ok(())
+}
+
 #[test]
 fn queues(rt: HostRuntime) -> Result<(), Fail> {
     let heap = rt.alloc();
     let slot = load(&rt, heap, CHILDREN)?;
     let (mut bench, going) = Bench::open(heap, &Tally, slot.card(), 1)?;
-    // Main stands behind its children, so the last on offer is main until both are made.
-    for _ in 0..4 {
-        assert_eq!(rt; step(&rt, &mut bench, &going, &mut Last), Ok(()));
-    }
+    make_children(&rt, &mut bench, &going);
     let rd = Declared {
         reads: Level::Immediate,
         ..Declared::NOTHING
