@@ -1,9 +1,10 @@
 -- What each statement does.
-use Rattle.std.proofs.Common.{◌≡◌, ℕ, suc, ◌≤◌, Bool, true, false, cond, List, [], ◌∷◌, ◌++◌, get_or, set, ℤ, sym, refl, ap, ◌∙◌, arith, Bor, Ok, Err}
+use Rattle.std.proofs.Common.{◌≡◌, ℕ, suc, ◌≤◌, Bool, true, false, cond, List, [], ◌∷◌, ◌++◌, get_or, set, ℤ, sym, refl, ap, ◌∙◌, arith, Bor, vec_items, Ok, Err}
 use Rattle.kinds.specs.Kinds.{Kind}
 use Rattle.cards.specs.declared.lines.Access.{Access}
 use Rattle.cards.specs.declared.lines.Access.TheVariants.{Rd, Wr, Cm}
 use Rattle.cards.specs.declared.lines.Declaration.{Declaration}
+use Rattle.cards.specs.declared.section.Section as Rust
 use Rattle.cards.specs.declared.tree.Block as tree
 use Rattle.cards.specs.Code.{Block, end, Statement, ◌before◌}
 use Rattle.cards.specs.Bounds.{task_bound, statement_tasks, depth, statement_depth}
@@ -12,7 +13,7 @@ use Rattle.working.specs.Tasks.{Declared, Task, is_immediate, level}
 use Rattle.working.specs.Requests.{FaultKind, reading, writing, joining, declaring, Request, Section, refused, accepted, amended, fault, quiet, read, write, join, goes, makes, changed, continued, with_word, with_pointer, word, pointer, child, maker, after_with, after_task, under, statement_request, stored, stepped, reply}
 use Rattle.working.specs.declared.record.Record.{Record}
 use Rattle.working.specs.declared.effect.Effect.TheVariants.{Passes, Amends, Enters, Repeats, Makes}
-use Rattle.working.specs.Records.{task_with, declared_of, child_section}
+use Rattle.working.specs.Records.{task_with, declared_of, child_section, ChildRecord}
 use Rattle.working.specs.Effects.{Did, Does}
 
 -- r' is r with other words and pointers
@@ -51,6 +52,15 @@ arm_is k r r' l s i j u v x y z t e d f h n g = λ p c w b.
 section_is : (k : Kind) (r : Record) (l : ℕ) (s : Statement) (xs : List Declaration) (x : Block) (v : Section) → s ≡ Statement.task xs x → child_section r xs ≡ v → Asks k r l s (λ p c w b. after_task (task_with r p c w) x b v)
 unfolding statement_request
 section_is k r l s xs x v e f = λ p c w b. ap (λ (y : Statement). statement_request k (task_with r p c w) l y b) e ∙ ap (after_task (task_with r p c w) x b) f
+
+-- what becomes of a `task` whose child has record u
+makes_child : (k : Kind) (r : Record) (m : List ℕ) (l : ℕ) (s : Statement) (xs : List Declaration) (x : Block) (u : Record) → s ≡ Statement.task xs x → ChildRecord xs r (Ok u) → (p : List ℕ) (c : ℕ) (w b : Block) → (reply m (statement_request k (task_with r p c w) l s b) ≡ stepped (makes (task_with u (p ++ suc c ∷ []) 0 x) (task_with r p (suc c) b))) × (m ≡ stored k m (statement_request k (task_with r p c w) l s b))
+unfolding after_task child maker reply stored
+makes_child k r m l s xs x u e h p c w b =
+    let q : statement_request k (task_with r p c w) l s b ≡ quiet (makes (task_with u (p ++ suc c ∷ []) 0 x) (task_with r p (suc c) b)) =
+    section_is k r l s xs x (accepted (declared_of u)) e h.0 p c w b
+    ∙ ap (λ (t : Task). quiet (makes t (task_with r p (suc c) b))) (task_is (p ++ suc c ∷ []) 0 x u r.words r.pointers (declared_of u) h.1 h.2 refl) in
+    (ap (reply m) q, ap (stored k m) (sym q))
 
 module _ {k : Kind} {r r' : Record} {m m' : List ℕ} {l : ℕ} {s : Statement} where
   passes_by : (q : List ℕ → ℕ → Block → Block → Request) → Asks k r l s q → ((p : List ℕ) (c : ℕ) (w b : Block) → reply m (q p c w b) ≡ stepped (goes (task_with r' p c b))) → ((p : List ℕ) (c : ℕ) (w b : Block) → m' ≡ stored k m (q p c w b)) → Does k r m l s (Ok Passes) r' m'
@@ -163,15 +173,16 @@ module _ {k : Kind} {r r' : Record} {m m' : List ℕ} {l : ℕ} {s : Statement} 
   unfolding after_task
   fails_task xs x n e f = faults_by declaring n (section_is k r l s xs x (refused n) e f)
 
-  pub does_task : (xs : List Declaration) (x : Block) (u : Record) (z : Bor tree.Block) → s ≡ Statement.task xs x → child_section r xs ≡ accepted (declared_of u) → u.words ≡ r.words → u.pointers ≡ r.pointers → block_of z.now ≡ x → r' ≡ r → m' ≡ m → Does k r m l s (Ok (Makes u z)) r' m'
-  unfolding Did after_task child maker reply stored
-  does_task xs x u z e f g h n a d =
-      let q : Asks k r l s (λ p c w b. quiet (makes (task_with u (p ++ suc c ∷ []) 0 (block_of z.now)) (task_with r' p (suc c) b))) = λ p c w b.
-      section_is k r l s xs x (accepted (declared_of u)) e f p c w b
-      ∙ ap (λ (t : Task). quiet (makes t (task_with r p (suc c) b))) (task_is (p ++ suc c ∷ []) 0 x u r.words r.pointers (declared_of u) g h refl)
-      ∙ ap (λ (y : Block). quiet (makes (task_with u (p ++ suc c ∷ []) 0 y) (task_with r p (suc c) b))) (sym n)
-      ∙ ap (λ (y : Record). quiet (makes (task_with u (p ++ suc c ∷ []) 0 (block_of z.now)) (task_with y p (suc c) b))) (sym a) in
-      record { did = λ p c w b. (ap (reply m) (q p c w b), d ∙ ap (stored k m) (sym (q p c w b))) }
+  pub does_task : (y : Bor Rust.Section) (x : Bor tree.Block) → s ≡ Statement.task (vec_items y.now.lines) (block_of x.now) → r' ≡ r → m' ≡ m → Does k r m l s (Ok (Makes y x)) r' m'
+  unfolding Did
+  does_task y x e g d = record {
+    did = λ p c w b. (
+      λ u h. let j = makes_child k r m l s (vec_items y.now.lines) (block_of x.now) u e h p c w b in (j.0 ∙ ap (λ (o : Record). stepped (makes (task_with u (p ++ suc c ∷ []) 0 (block_of x.now)) (task_with o p (suc c) b))) (sym g), d ∙ j.1),
+      λ i h. ((fails_task (vec_items y.now.lines) (block_of x.now) i.line e h g d).did p c w b).0,
+      g,
+      d,
+    );
+  }
 
 -- An arm, and a child's block, stand in their statement.
 

@@ -1,14 +1,16 @@
 -- A step at the head of the work.
-use Rattle.std.proofs.Common.{◌≡◌, ℕ, zero, suc, ◌+◌, ◌≤◌, max, List, [], ◌∷◌, ◌++◌, sym, refl, ap, ◌∙◌, subst, arith, Bor, Ok, Err}
+use Rattle.std.proofs.Common.{◌≡◌, ℕ, zero, suc, ◌+◌, ◌≤◌, max, List, [], ◌∷◌, ◌++◌, sym, refl, ap, ◌∙◌, subst, arith, Bor, vec_items, Ok, Err}
 use Rattle.kinds.specs.Kinds.{Kind}
 use Rattle.cards.specs.Code.{Block, end, next, Statement, ◌before◌}
 use Rattle.cards.specs.Bounds.{task_bound, statement_tasks, depth, statement_depth}
+use Rattle.cards.specs.declared.section.Section.{Section}
 use Rattle.cards.specs.declared.tree.Block as tree
 use Rattle.cards.specs.declared.tree.Step.{Step}
 use Rattle.cards.specs.Trees.{block_of, statement_of}
 use Rattle.working.specs.Tasks.{Task}
-use Rattle.working.specs.Requests.{quiet, leaves, goes, makes, changed, continued, statement_request, block_request, request, stored, stepped, reply}
+use Rattle.working.specs.Requests.{declaring, quiet, leaves, goes, makes, changed, continued, statement_request, block_request, request, stored, stepped, reply}
 use Rattle.working.specs.declared.fault.Fault.{Fault}
+use Rattle.working.specs.declared.fault.Refused.{Refused}
 use Rattle.working.specs.declared.place.Place.{Place}
 use Rattle.working.specs.declared.record.Record.{Record}
 use Rattle.working.specs.declared.task.Task as Rust
@@ -19,7 +21,7 @@ use Rattle.working.specs.declared.work.Fresh.{Fresh}
 use Rattle.working.specs.declared.effect.Effect.TheVariants.{Passes, Amends, Enters, Repeats, Makes}
 use Rattle.working.specs.declared.step.Stepped.TheVariants.{Went, Amended, Finished, Made}
 use Rattle.working.specs.Works.{ranks_of, work_of, below, over, over_both, step_of, Fits, Few, Stays, Heads, after_rounds}
-use Rattle.working.specs.Records.{task_with}
+use Rattle.working.specs.Records.{task_with, ChildRecord}
 use Rattle.working.specs.Effects.{Did, Does}
 use Rattle.working.specs.Steps.{task_of, model_of, Answered}
 use Rattle.working.proofs.Fine.{task_bound_before}
@@ -148,11 +150,19 @@ module _ (k : Kind) (m : List ℕ) (t t' : Rust.Task) (u : Work) (stays : Stays 
         let here = sym head.0 ∙ at_work u s.now head.1 ∙ ap (λ (y : Statement). next s.now.line y b) h.0 in
         subst (Answered k t m (Ok Went) t') (sym h.2) (answers_round k m t t' s.now.line n (block_of x.now) b here e (stays_on t.work u t'.work stays p) h.1)
 
-    pub answers_makes : (v : Record) (x : Bor tree.Block) (z : Fresh) → Does k t.own m s.now.line (statement_of s.now.statement) (Ok (Makes v x)) t'.own m' → work_of t'.work ≡ over (block_of s.now.rest) u → t'.work.place ≡ u.place → t'.work.children ≡ suc u.children → (block_of z.body.now ≡ block_of x.now) × (ranks_of z.place ≡ ranks_of u.place ++ suc u.children ∷ []) → Answered k t m (Ok (Made v z)) t' m'
+    pub answers_refused : (y : Bor Section) (x : Bor tree.Block) (e : Refused) → Does k t.own m s.now.line (statement_of s.now.statement) (Ok (Makes y x)) t'.own m' → ChildRecord (vec_items y.now.lines) t'.own (Err e) → t'.work ≡ u → Answered k t m (Err (record { kind = declaring; line = e.line })) t' m'
+    unfolding Did
+    answers_refused y x e d n w =
+        let own : t'.own ≡ t.own = (d.did [] 0 end end).2 in
+        let h = subst (λ (r : Record). ChildRecord (vec_items y.now.lines) r (Err e)) own n in
+        answers_fault _ (record { did = λ p c w b. let i = d.did p c w b in (i.1 e h, i.2, i.3) }) w
+
+    pub answers_makes : (y : Bor Section) (v : Record) (x : Bor tree.Block) (z : Fresh) → Does k t.own m s.now.line (statement_of s.now.statement) (Ok (Makes y x)) t'.own m' → ChildRecord (vec_items y.now.lines) t'.own (Ok v) → work_of t'.work ≡ over (block_of s.now.rest) u → t'.work.place ≡ u.place → t'.work.children ≡ suc u.children → (block_of z.body.now ≡ block_of x.now) × (ranks_of z.place ≡ ranks_of u.place ++ suc u.children ∷ []) → Answered k t m (Ok (Made v z)) t' m'
     unfolding Answered Did
-    answers_makes v x z d e p c f =
+    answers_makes y v x z d n e p c f =
         let b = over (block_of s.now.rest) u in
-        let h = d.did (ranks_of t.work.place) t.work.children (work_of t.work) b in
+        let i = d.did (ranks_of t.work.place) t.work.children (work_of t.work) b in
+        let h = i.0 v (subst (λ (r : Record). ChildRecord (vec_items y.now.lines) r (Ok v)) i.2 n) in
         let ranks = f.1 ∙ ap (λ (y : Place). ranks_of y ++ suc u.children ∷ []) stays.0 ∙ ap (λ (n : ℕ). ranks_of t.work.place ++ suc n ∷ []) stays.1 in (
           ap (reply m) asked ∙ h.0
               ∙ ap (λ (y : Task). stepped (makes (task_with v (ranks_of t.work.place ++ suc t.work.children ∷ []) 0 (block_of x.now)) y)) (moved t'.own (ranks_of t.work.place) (suc t.work.children) b t'.work (ap ranks_of (p ∙ stays.0)) (c ∙ ap suc stays.1) e)

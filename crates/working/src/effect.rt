@@ -1,23 +1,24 @@
 // What a statement does to its task's record and the objects.
 ghost use Rattle.std.specs.Prelude.{◌≡◌, ◌≤◌, length, slice_index};
 ghost use Rattle.cards.specs.Trees.{statement_of};
-ghost use Rattle.working.specs.Effects.{Does, Inside, Sized, Kept};
+ghost use Rattle.working.specs.Effects.{Does, Inside, Kept};
 ghost use Rattle.working.specs.Records.{declared_of};
 
 use crate::fault::Fault;
 use crate::record::Record;
-use cards::{Access, Block, Local, Statement, Step};
+use cards::{Access, Block, Local, Section, Statement, Step};
 use kinds::ValueKind;
 
 // How the work goes on: it passes to the rest, with other declarations or not, enters a block, repeats one, or makes a
-// child of one.
+// child of one, with a section. The child's record is made by the step: here each effect would hold room for one, which is
+// cleared and copied in every step.
 #[derive(Clone, Copy)]
 pub(crate) enum Effect<'c> {
     Passes,
     Amends,
     Enters(&'c Block),
     Repeats(u8, &'c Block),
-    Makes(Record, &'c Block),
+    Makes(&'c Section, &'c Block),
 }
 
 impl Record {
@@ -39,7 +40,6 @@ impl Record {
         ensures inside { Inside (statement_of step.now.statement) result }
         ensures objects { self.new.objects ≡ self.old.objects }
         ensures kept { Kept (declared_of self.old) result (declared_of self.new) }
-        ensures sized { Sized self.old.objects result }
     {
         match &step.statement {
             Statement::Set { word, literal } => {
@@ -93,10 +93,7 @@ impl Record {
                 }
             }
             Statement::Repeat { count, body } => Ok(Effect::Repeats(*count, body)),
-            Statement::Task { section, body } => {
-                let child = self.child(section)?;
-                Ok(Effect::Makes(child, body))
-            }
+            Statement::Task { section, body } => Ok(Effect::Makes(section, body)),
             Statement::With { section } => {
                 self.amend(section)?;
                 Ok(Effect::Amends)

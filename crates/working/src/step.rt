@@ -39,6 +39,10 @@ impl<'c> Task<'c> {
     }
 
     // One step, on the objects' words. All tasks share these, so no task's type can tell that there are enough.
+    //
+    // Always in its caller's body: what it answers has room for a child's record, and a call clears and copies that room
+    // in every step.
+    #[inline(always)]
     pub fn step<K: ValueKind>(&mut self, kind: &K, store: &mut [u32]) -> Result<Stepped<'c>, Fault>
         requires { self.old.own.objects ≤ length store.old }
         ensures answer { Answered (K.ValueKind.kind kind.now) self.old store.old result self.new store.new }
@@ -76,7 +80,8 @@ impl<'c> Task<'c> {
                         });
                         Ok(Stepped::Went)
                     }
-                    Effect::Makes(child, body) => {
+                    Effect::Makes(section, body) => {
+                        let child = self.own.child(section)?;
                         let fresh = self.work.spawn(body, &step.rest);
                         Ok(Stepped::Made(child, fresh))
                     }

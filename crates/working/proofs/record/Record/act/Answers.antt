@@ -1,7 +1,7 @@
 use Rattle.std.proofs.Common.{true, false, sym, refl, ap, ◌∙◌, rules}
 use Rattle.std.proofs.lemmas.Result.{err_from_is_err_and}
 use Rattle.cards.specs.Trees.{block_of, statement_of}
-use Rattle.working.proofs.Effects.{does_set, does_add, does_point, does_alias, does_read, does_write, does_join, fails_read, fails_write, fails_join, does_if, skips_if, does_if_else, does_repeat, does_with, fails_with, does_task, fails_task, in_if, in_if_else, in_task}
+use Rattle.working.proofs.Effects.{does_set, does_add, does_point, does_alias, does_read, does_write, does_join, fails_read, fails_write, fails_join, does_if, skips_if, does_if_else, does_repeat, does_with, fails_with, does_task, in_if, in_if_else, in_task}
 use Rattle.working.proofs.record.Record.act.Goals as goal
 
 pub returns-in-Set-clause-does : goal.returns-in-Set-clause-does
@@ -83,12 +83,6 @@ returns-in_err-o-in-Join-clause-does g c =
     let h = c.in_err-o-in-Join.ensures in
     rw (p.1, p.2, h.0) (fails_join c.in-Join.pointer.n c.in-Join.word.n _ (ap statement_of c.in-Join.is) refl (sym h.1) refl refl)
 
-pub returns-in_err-child-in-Task-clause-does : goal.returns-in_err-child-in-Task-clause-does
-returns-in_err-child-in-Task-clause-does g c =
-    let p = err_from_is_err_and c.from_residual-in_err-child-in-Task.result c.from_residual-in_err-child-in-Task.ensures.1 in
-    let h = c.in_err-child-in-Task.ensures in
-    rw (p.1, p.2) (fails_task c.in-Task.section.lines.items (block_of c.in-Task.body) _ (ap statement_of c.in-Task.is) h refl refl)
-
 pub returns-in_err-amend-in-With-clause-does : goal.returns-in_err-amend-in-With-clause-does
 returns-in_err-amend-in-With-clause-does g c =
     let p = err_from_is_err_and c.from_residual-in_err-amend-in-With.result c.from_residual-in_err-amend-in-With.ensures.1 in
@@ -110,13 +104,11 @@ returns-in_ok-o-in-Join-clause-does g c =
     let h = c.in_ok-o-in-Join.ensures in
     does_join c.in-Join.pointer.n c.in-Join.word.n c.in_ok-o-in-Join.o c.word-in-Join.result c.join.result (ap statement_of c.in-Join.is) h.0 (sym h.1) c.word-in-Join.ensures c.join.ensures refl refl
 
-pub returns-in_ok-child-in-Task-clause-does : goal.returns-in_ok-child-in-Task-clause-does
-returns-in_ok-child-in-Task-clause-does g c =
-    let h = c.in_ok-child-in-Task.ensures in
-    does_task c.in-Task.section.lines.items (block_of c.in-Task.body) c.in_ok-child-in-Task.child _ (ap statement_of c.in-Task.is) h.0 h.1 h.2 refl refl refl
+pub returns-in-Task-clause-does : goal.returns-in-Task-clause-does
+returns-in-Task-clause-does g c = does_task _ _ (ap statement_of c.in-Task.is) refl refl
 
-pub returns-in_ok-child-in-Task-clause-inside : goal.returns-in_ok-child-in-Task-clause-inside
-returns-in_ok-child-in-Task-clause-inside g c = in_task c.in-Task.section.lines.items (block_of c.in-Task.body) (statement_of c.args.step.now.statement) (ap statement_of c.in-Task.is)
+pub returns-in-Task-clause-inside : goal.returns-in-Task-clause-inside
+returns-in-Task-clause-inside g c = in_task c.in-Task.section.lines.items (block_of c.in-Task.body) (statement_of c.args.step.now.statement) (ap statement_of c.in-Task.is)
 
 pub returns-in_ok-amend-in-With-clause-does : goal.returns-in_ok-amend-in-With-clause-does
 returns-in_ok-amend-in-With-clause-does g c =

@@ -1,7 +1,7 @@
 use Rattle.std.proofs.Common.{refl}
 use Rattle.std.proofs.lemmas.Result.{err_from_is_err_and}
 use Rattle.cards.specs.Trees.{block_of}
-use Rattle.working.proofs.Steps.{fits_rest, fits_in, few_rest, few_in, few_task, few_rounds, fits_rounds, repeats_is, answers_finished, answers_rounds, answers_fault, answers_passes, answers_amends, answers_enters, answers_repeats, answers_makes}
+use Rattle.working.proofs.Steps.{fits_rest, fits_in, few_rest, few_in, few_task, few_rounds, fits_rounds, repeats_is, answers_finished, answers_rounds, answers_fault, answers_passes, answers_amends, answers_enters, answers_repeats, answers_refused, answers_makes}
 use Rattle.working.proofs.task.Task.step.Goals as goal
 
 pub pass-requires : goal.pass-requires
@@ -80,8 +80,14 @@ returns-in-Repeats-clause-answer g c =
     let e = c.round-in-Repeats.ensures in
     answers_repeats _ _ _ _ c.head.new.self h.stays _ c.in-Next.step h.heads c.in-Repeats.left c.in-Repeats.body (rw c.in-Repeats.is at c.in_ok-effect-in-Next.ensures.does) e.work e.stays
 
-pub returns-in-Makes-clause-answer : goal.returns-in-Makes-clause-answer
-returns-in-Makes-clause-answer g c =
+pub returns-in_err-child-in-Makes-clause-answer : goal.returns-in_err-child-in-Makes-clause-answer
+returns-in_err-child-in-Makes-clause-answer g c =
+    let h = c.in-Next.ensures in
+    let p = err_from_is_err_and c.from_residual-in_err-child-in-Makes.result c.from_residual-in_err-child-in-Makes.ensures.1 in
+    rw (p.1, p.2) (answers_refused _ _ _ _ c.head.new.self h.stays _ c.in-Next.step h.heads c.in-Makes.section c.in-Makes.body _ (rw c.in-Makes.is at c.in_ok-effect-in-Next.ensures.does) c.in_err-child-in-Makes.ensures refl)
+
+pub returns-in_ok-child-in-Makes-clause-answer : goal.returns-in_ok-child-in-Makes-clause-answer
+returns-in_ok-child-in-Makes-clause-answer g c =
     let h = c.in-Next.ensures in
     let e = c.spawn-fresh.ensures in
-    answers_makes _ _ _ _ c.head.new.self h.stays _ c.in-Next.step h.heads c.in-Makes.child c.in-Makes.body c.spawn-fresh.result (rw c.in-Makes.is at c.in_ok-effect-in-Next.ensures.does) e.work e.place e.children e.fresh
+    answers_makes _ _ _ _ c.head.new.self h.stays _ c.in-Next.step h.heads c.in-Makes.section c.in_ok-child-in-Makes.child c.in-Makes.body c.spawn-fresh.result (rw c.in-Makes.is at c.in_ok-effect-in-Next.ensures.does) c.in_ok-child-in-Makes.ensures e.work e.place e.children e.fresh
