@@ -53,7 +53,9 @@ pub(crate) const DECLARATIONS: [(&[u8], Verb); 9] = [
     (b"nocm", Verb::Declare(Access::Cm, Level::Absent)),
 ];
 
-// What stands beside a word in a table.
+// What stands beside a word in a table. Always in its caller's body, where the table is a constant, and so are the words
+// that it compares and their lengths.
+#[inline(always)]
 pub(crate) fn find<T: Copy>(table: &[(&[u8], T)], word: &[u8]) -> Option<T>
     ensures { result ≡ Lines.find (Lines.entries table.now) word.now }
 {
